@@ -140,6 +140,7 @@ class Says:
     UIDS_ANEW = Sentence("uids-anew", "its UIDs start anew, because {}")
     UIDS_UNKNOWN = Sentence("uids-not-raised", "without --dovecot, Dovecot may give a UID twice")
     KEYWORDS_LOST = Sentence("keywords-lost", "only {} keywords are kept; lost: {}")
+    KEYWORDS_FULL = Sentence("keywords-lost", "only {} keywords are kept; if new mail had others, these are lost")
     KEYWORDS_ADDED = Sentence("keywords-added", "Dovecot is to add keywords, because {}: {}")
     SUBSCRIPTIONS = Sentence("subscriptions", "subscribed to {}")
     # of mail that people moved, deleted or changed in the Maildir

@@ -257,18 +257,22 @@ def new_mailboxes_of_a_rehearsal(home: Home) -> None:
 
 
 def many_keywords(home: Home) -> None:
-    """More keywords than letters by which answers are chosen have no room in a mailbox: people get each command."""
+    """More keywords than letters by which answers are chosen have no room in a mailbox, each of another message: people
+    get each command."""
     base = letters(1).replace(b"Subject", b"X-IMAPbase: 1700000000 0000000001\nX-UID: 1\nSubject", 1)
     begun(home, {"a": base, "b": letters(2)}, ["--dovecot"])
     marks = "abcdefghijklmno"
-    deliver(home, f".a/cur/17000.M1.host:2,{marks}", new("new"))
+    for number, mark in enumerate(marks, 2):
+        deliver(home, f".a/cur/17000.M{number}.host:2,{mark}", new(f"new{number}"))
     folder = home.folder("a")
     (folder / KEYWORDS).write_text("".join(f"{number} Word{number}\n" for number in range(len(marks))))
-    (folder / LIST).write_text((folder / LIST).read_text().replace("N2", "N3") + "2 :17000.M1.host\n")
+    several = "".join(f"{uid} :17000.M{uid}.host\n" for uid in range(2, 17))
+    (folder / LIST).write_text((folder / LIST).read_text().replace("N2", "N17") + several)
     home.place.own(*folder.iterdir())
     ran = home.place.run(["back", "--now", "--dovecot", "M", "mail"])
-    words = re.findall(r"doveadm flags add \S+ \S+ (Word\d+) mailbox a uid 2\n", ran.out)
-    equal(f"the commands: {ran.output}", sorted(words), sorted(f"Word{number}" for number in range(len(marks))))
+    words = re.findall(r"doveadm flags add \S+ \S+ (Word\d+) mailbox a uid (\d+)\n", ran.out)
+    wanted = [(f"Word{number}", f"{number + 2}") for number in range(len(marks))]
+    equal(f"the commands: {ran.output}", sorted(words), sorted(wanted))
 
 
 RULES = (

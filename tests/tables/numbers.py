@@ -140,6 +140,16 @@ CASES = {
         ["uids-raised", "keywords-added"],
         [f"{FLAGS}-- -x mailbox a uid 8", f"{FLAGS}later mailbox a uid 5:6,8"],
     ),
+    "no room for two keywords of a message": Case(
+        NARROW,
+        listed(9, b"8 :1.a\n"),
+        b"0 later\n1 -x\n",
+        ["1.a:2,ab"],
+        NARROW.replace(b"0000000003", b"0000000008"),
+        [b"X-UID: 8\n"],
+        ["uids-raised", "keywords-added"],
+        [f"{FLAGS}-- -x later mailbox a uid 8"],
+    ),
     "a keyword of the first of two equal messages": Case(
         NARROW,
         listed(9, b"5 :1.a\n8 :2.a\n"),
@@ -149,6 +159,15 @@ CASES = {
         [b"X-UID: 5\n", b"X-UID: 8\n"],
         ["uids-raised", "keywords-added"],
         [f"{FLAGS}later mailbox a uid 5"],
+    ),
+    "as many keywords as there are letters": Case(
+        KEPT,
+        listed(4),
+        b"".join(b"%d k%d\n" % (number, number) for number in range(26)),
+        ["1.a:2,z"],
+        KEPT.replace(b"Garden\nX-UID: 1          \n", b"Garden k25\nX-UID: 1      \n"),
+        [b"X-Keywords: k25\n"],
+        ["keywords-lost"],
     ),
     "a mailbox that has no UIDs": Case(
         BARE, listed(4), b"0 Garden\n", ["1.a:2,a"], BARE, [b""], ["keywords-added"], [f"{FLAGS}Garden mailbox a uid 2"]

@@ -222,6 +222,9 @@ class Numbering:
         """Has the mailbox say what it is to say of its UIDs and keywords, before mail is appended: if that is
         interrupted, some UIDs are never given."""
         line, new = UidLine.of(mailbox) if mailbox.size else None, list[bytes]()
+        if self.listed and len(self.listed.keywords) == LETTERS and (target.returned or target.mails):
+            # further ones would be in Dovecot's index alone
+            self.remarks.append(Says.KEYWORDS_FULL.of(LETTERS))
         if line:
             self.named = set(map(bytes.lower, line.head.keywords))
             new = self.raise_uids(mailbox, line, self.unnamed(target.mails), is_dry)
@@ -316,10 +319,12 @@ class Numbering:
         names = [name for name, its in wanted.items() if its or is_dry]
         if names:
             self.remarks.append(Says.KEYWORDS_ADDED.of(self.why, first_of(names, " ")))
+        several: collections.defaultdict[str, list[str]] = collections.defaultdict(list)
         for name in names if not is_dry else ():
-            to = "mailbox", self.name, "uid", ranges_of(wanted[name])
-            words = *of_this_user(), *["--"] * name.startswith(b"-"), text_of(name), *to
-            self.next += run_next(Runs.ADD_FLAGS, *words, does=Does.ADD_KEYWORDS)
+            several[ranges_of(wanted[name])].append(text_of(name))
+        for ranges, its in several.items():
+            words = *["--"] * its[0].startswith("-"), " ".join(its), "mailbox", self.name, "uid", ranges
+            self.next += run_next(Runs.ADD_FLAGS, *of_this_user(), *words, does=Does.ADD_KEYWORDS)
 
 
 def of_this_user() -> list[str]:
