@@ -8,6 +8,7 @@ import os
 import signal
 import subprocess
 from collections.abc import Iterator, Sequence
+from types import FrameType
 from typing import Any, Optional, Union
 
 Process = subprocess.Popen[bytes]
@@ -15,6 +16,8 @@ Process = subprocess.Popen[bytes]
 # the signals that end a program, except those that no program sees, and those of its own errors
 NAMES = "HUP INT QUIT TERM ALRM VTALRM PROF USR1 USR2 XCPU PWR POLL STKFLT"
 ENDING = [getattr(signal, "SIG" + name) for name in NAMES.split() if hasattr(signal, "SIG" + name)]
+# the file of the code that loads modules, and when a signal that came meanwhile comes again, in seconds
+LOADER, SOON = "<frozen importlib._bootstrap>", 0.0001
 
 
 class Interrupts:
@@ -26,10 +29,13 @@ class Interrupts:
         # would be lost
         self.last: Optional[Process] = None
 
-    def take(self, *_: object) -> None:
-        """Takes a signal."""
+    def take(self, _: int, frame: Optional[FrameType]) -> None:
+        """Takes a signal. While modules are loaded it waits: there Python drops what is raised in callbacks, and makes
+        another error of it in classes."""
         self.has_come = True
-        if not self.is_held:
+        if not self.is_held and is_loading(frame):
+            signal.setitimer(signal.ITIMER_REAL, SOON)
+        elif not self.is_held:
             self.is_held = True
             raise KeyboardInterrupt
 
@@ -58,6 +64,13 @@ class Interrupts:
             yield
         finally:
             self.is_held = True
+
+
+def is_loading(frame: Optional[FrameType]) -> bool:
+    """Whether a module is loaded at a moment."""
+    while frame and frame.f_code.co_filename != LOADER:
+        frame = frame.f_back
+    return frame is not None
 
 
 INTERRUPTS = Interrupts()

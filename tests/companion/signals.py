@@ -18,22 +18,31 @@ from tests.support.running import BY_OTHERS, Desk
 
 # what a run does after it has begun to handle signals, and before it has ended
 FIRST, STEP = 12, 5
-# a copy of the process that runs this is struck at each third module that is looked for, and tells how it ended
+# a copy of the process that runs this is struck at each third module that is looked for, and at each property that gets
+# its name, and tells how it ended
 STRIKES = """
-import _signal, posix, sys
+import _signal, functools, posix, sys
 _signal.signal(_signal.SIGINT, _signal.default_int_handler)
+process, own = posix.getpid(), functools.cached_property.__set_name__
+def strike():
+    if posix.getpid() == process:
+        copy = posix.fork()
+        if copy == 0:
+            posix.kill(posix.getpid(), _signal.SIGINT)
+        else:
+            posix.write(2, b"%d " % posix.waitpid(copy, 0)[1])
 class Finder:
-    looks, process = 0, posix.getpid()
+    looks = 0
     @classmethod
     def find_spec(cls, *_):
         cls.looks += 1
-        if cls.looks % 3 == 1 and posix.getpid() == cls.process:
-            copy = posix.fork()
-            if copy == 0:
-                posix.kill(posix.getpid(), _signal.SIGINT)
-            else:
-                posix.write(2, b"%d " % posix.waitpid(copy, 0)[1])
+        if cls.looks % 3 == 1:
+            strike()
+def get_name(*words):
+    strike()
+    own(*words)
 sys.meta_path.insert(0, Finder)
+functools.cached_property.__set_name__ = get_name
 """
 STRUCK = "import atexit, posix, signal\natexit.register(lambda: posix.kill(posix.getpid(), signal.SIGINT))\n"
 RUNS = """
