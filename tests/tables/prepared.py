@@ -193,7 +193,13 @@ STORIES: dict[str, list[Step]] = {
     "the_list_is_damaged": [
         *(("a", ONE), FIRST, f"!echo damage >>{LIST}", ("a", TWO)),
         *((words, "a: left (ledger): M/mbox2maildir-prepared: line ... is damaged: ...") for words in (FIRST, LAST)),
-        "= one M+",
+        *("= one M+", ">", (LAST, "a: left (ledger): the list of what was prepared in its folder is gone, ..."), ">"),
+        f"= one two {LIST[2:]}.damaged?",
+    ],
+    "the_list_of_another_mailbox_is_damaged": [
+        *(("old/a", ONE), ("old/b", TWO), FIRST_OF_TREE, "!echo damage >>M/.a/mbox2maildir-prepared"),
+        ("migrate --undo M old/a", "old/a: left (ledger): M/.a/mbox2maildir-prepared: line ... is damaged: ..."),
+        *(("migrate --undo M old/b", "old/b: undone: removed 1 message"), "= a/one .a+"),
     ],
     "the_list_is_of_another_version": [
         *(("a", ONE + TWO), FIRST, f"!sed -i 's/\tmboxrd\t/\tmboxy\t/' {LIST}", (LAST, "a: done: 2 prepared before")),

@@ -19,6 +19,7 @@ from .lines import (
     ALL_PLACED,
     BATCH,
     BEGINS,
+    DAMAGED,
     END,
     END_LINE,
     FAILED,
@@ -463,7 +464,7 @@ class Ledger(Told):
 
     def put_aside(self) -> None:
         """Begins anew. What is damaged stays beside it, each time under another name."""
-        path, last = os.path.join(self.folder, LEDGER) + b".damaged", self.last
+        path, last = os.path.join(self.folder, LEDGER) + DAMAGED, self.last
         aside = itertools.chain([path], (b"%b.%d" % (path, number) for number in itertools.count(2)))
         if not self.is_dry:
             os.rename(os.path.join(self.folder, LEDGER), next(one for one in aside if not is_there(one)))

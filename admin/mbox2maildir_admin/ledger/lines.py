@@ -59,6 +59,8 @@ FAILED = pattern(rb"!\t(\d{1,18})\Z")
 PLACED_LINE, END_LINE, FAILED_LINE = b"+\t%d\n", b"=\t%d\n", b"!\t%d\n"
 # what ends a line that was cut: no line ends with a tab, so it becomes no other one
 CUT = b"\t"
+# what the name of a damaged file ends in once it is out of the way
+DAMAGED = b".damaged"
 # how many bytes of lines are written at once, in whole lines: others append too
 PIECE = 1 << 16
 NOT_TRUSTED = "it does not belong to you, or others may write to it: look at it, and move it away"

@@ -11,7 +11,7 @@ import itertools
 import os
 import re
 import time
-from collections.abc import Container, Iterable, Iterator, Sequence
+from collections.abc import Iterable, Iterator, Sequence
 from typing import NamedTuple, Optional
 
 from ..faults import Fault, Reason
@@ -21,11 +21,13 @@ from ..maildir.making import PREPARED, TMP, WITH_MAIL, sync_folder
 from ..mbox.bases import FIRST, Table, base_in, before_info
 from ..mbox.core import SHORT
 from ..mbox.inventory import NO_DATE, Inventory
+from ..nexts import Runs, run_next
 from ..progress import milliseconds_since
 from ..remarks import PLACES, Remark
 from ..patterns import pattern
+from ..terminal import operand
 from ..units import Say
-from .lines import CUT, FIRST_OF_LIST, append, lines_in
+from .lines import CUT, DAMAGED, FIRST_OF_LIST, append, lines_in
 from .match import Match
 from .placing import Placing
 
@@ -129,9 +131,9 @@ def remove_aside(path: bytes) -> None:
 
 
 def origin_in(folder: bytes) -> Optional[Origin]:
-    """What a pass has read, by the first line of the list of a folder that says so."""
-    found = next(filter(None, map(BEGUN.match, lines_in(folder, PREPARED))), None)
-    return Origin.of(found) if found else None
+    """What a pass has read, by the last line of the list of a folder that says so, which may be damaged elsewhere."""
+    found = [*filter(None, map(BEGUN.match, lines_in(folder, PREPARED)))]
+    return Origin.of(found[-1]) if found else None
 
 
 def has_list(folder: bytes) -> bool:
@@ -226,14 +228,12 @@ class Prepared:
         written to it."""
         self = cls(folder)
         self.is_there = has_list(folder)
+        path = os.path.join(folder, PREPARED)
         for number, line in enumerate(lines_in(folder, PREPARED), 1):
             if not self.take(line) and not line.endswith(CUT):
-                raise Fault(LIST_DAMAGED % number, Reason.LEDGER, place=os.path.join(folder, PREPARED))
+                then = run_next(Runs.MOVE, operand(path), operand(path + DAMAGED))
+                raise Fault(LIST_DAMAGED % number, Reason.LEDGER, then, place=path)
         return self
-
-    def is_from(self, names: Container[str]) -> bool:
-        """Whether it was prepared from the mailbox of these names."""
-        return self.origin is not None and self.origin.path in names
 
     def take(self, line: bytes) -> bool:
         """Takes a line, and returns whether it is one."""

@@ -232,17 +232,17 @@ def mend(
     return one if stage is Stage.FREE and record.has_prepared and not one.reader() else None
 
 
-def other_in(prepared: Prepared, names: Sequence[str]) -> bytes:
+def other_in(origin: Optional[Origin], names: Sequence[str]) -> bytes:
     """The path of the mailbox from which a folder is prepared if it is there, and is another one than that of these
     names; empty otherwise. What was prepared from one that is gone is whose mailbox comes: it may have been moved."""
-    other = unspelled(prepared.origin.path) if prepared.origin else b""
+    other = unspelled(origin.path) if origin else b""
     # a symbolic link may lead from one to the other
     return other if other and is_there(other) and not {*names_of(other)} & {*names} else b""
 
 
 def want_free(one: Preparation, known: Known) -> None:
     """Raises Left if a folder cannot be prepared from a mailbox."""
-    other = other_in(one.prepared, known.names) if one.is_open else b""
+    other = other_in(one.prepared.origin, known.names) if one.is_open else b""
     if other:
         raise Left(ANOTHER % named(other), Reason.PREPARED)
     if one.stage in (Stage.MAIL, Stage.OVER):

@@ -22,7 +22,7 @@ from ..ledger.match import cores_of
 from ..ledger.gone import without_line
 from ..ledger.history import Event
 from ..ledger.ledger import Ledger, count_in
-from ..ledger.prepared import Prepared, has_list, remove_list
+from ..ledger.prepared import has_list, origin_in, remove_list
 from ..ledger.record import Record, unspelled
 from ..looks import is_there
 from ..maildir.files import digest_of, forms_in, mail_in
@@ -362,9 +362,9 @@ def undo_prepared(record: Record, path: bytes, options: Options, say: Say) -> Op
     folder = options.named_folder
     try:
         names, several = record.names_of(path), folders_in(record.maildir)
-        for place in several if folder is None else [folder_path(record.maildir, folder)]:
-            prepared = Prepared.read(place) if has_list(place) else None
-            if prepared and (prepared.is_from(names) if folder is None else not other_in(prepared, names)):
+        for place in filter(has_list, several if folder is None else [folder_path(record.maildir, folder)]):
+            origin = origin_in(place)
+            if origin is not None and origin.path in names if folder is None else not other_in(origin, names):
                 return remove_prepared(record, path, name_of(record.maildir, place), options.dry, say)
         return None
     except (Fault, OSError) as fault:
