@@ -40,6 +40,14 @@ BEHIND_A_LINK = "\n".join(
 )
 TEN_DONE = "\n".join(f"old/{number}: done: 1 prepared before" for number in range(10))
 
+
+
+def removed(count: int) -> list[Step]:
+    """An undo, which its rehearsal has foretold, removes so many messages, and nothing is left."""
+    would = ("migrate --dry-run --undo M a", f"a: would be undone: would remove {count} messages")
+    return [would, ("migrate --undo M a", f"a: undone: removed {count} messages"), "="]
+
+
 STORIES: dict[str, list[Step]] = {
     "each_pass_follows_the_mailbox": [
         ("a", ONE + TWO),
@@ -260,18 +268,16 @@ STORIES: dict[str, list[Step]] = {
         *("migrate --dry-run M a", "migrate --dry-run --prepare --unread M a", "= one two M+", f"!cmp {LIST} kept"),
     ],
     "killed_and_undone": [
-        *steps(
-            ("a", ONE), FIRST, ("a", ONE + TWO), *KILLED, ("migrate --undo M a", "a: undone: removed 1 message"), "="
-        ),
+        *steps(("a", SEEN), FIRST, ("a", SEEN + TWO + SEEN), *KILLED, *removed(3)),
     ],
     # what another one has placed there meanwhile, by a run that was killed too
     "killed_twice_and_undone": [
         *steps(("a", ONE), FIRST, ("a", ONE + THREE), *KILLED, ("b", TWO), *killed("migrate --again M b")),
-        *("= one three two M+", ("migrate --undo M a", "a: undone: removed ..."), "="),
+        *("= one three two M+", *removed(3)),
     ],
     "killed_by_again_and_undone": [
         *steps(("a", ONE), FIRST, ("a", ONE + TWO), *killed("migrate --again M a")),
-        *("= one two M+", ("migrate --undo M a", "a: undone: removed ..."), "="),
+        *("= one two M+", *removed(2)),
     ],
     # what is converted by hand then is nobody's
     "killed_before_its_list_was_removed_and_undone": [

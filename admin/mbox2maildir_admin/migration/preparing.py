@@ -335,12 +335,16 @@ def remove_prepared(record: Record, path: bytes, name: bytes, dry: bool, say: Sa
     if not one.is_open:
         return None
     prepared = one.prepared
-    if one.ledger.paths():
+    was_begun = bool(one.ledger.paths())
+    if was_begun:
         # with --again, the list does not have the batch that was begun
-        one.take_back()
+        one.take_begun()
     prepared.look(say)
     count = len(prepared.unwanted())
     if not dry:
+        if was_begun:
+            one.take_back()
+            prepared.look(say)
         one.empty()
     removed = Says.REMOVED.of(counted(count, "message"), dry=dry)
     remarks = removed, *Says.KEPT_EDITED.of_any(len(prepared.edited), dry=dry)
