@@ -41,7 +41,6 @@ BEHIND_A_LINK = "\n".join(
 TEN_DONE = "\n".join(f"old/{number}: done: 1 prepared before" for number in range(10))
 
 
-
 def removed(count: int) -> list[Step]:
     """An undo, which its rehearsal has foretold, removes so many messages, and nothing is left."""
     would = ("migrate --dry-run --undo M a", f"a: would be undone: would remove {count} messages")
@@ -219,9 +218,15 @@ STORIES: dict[str, list[Step]] = {
         *(f"!cp -p kept {LIST}", ("a", TWO + THREE), (FIRST, OF_ANOTHER), "= one two"),
         *(f"!cp -p kept {LIST}", LAST, "= one three two"),
     ],
+    "the_list_of_a_mailbox_that_is_gone_comes_from_a_backup": [
+        *(("old/a", ONE), FIRST_OF_TREE, "!cp M/.a/mbox2maildir-prepared kept", TREE, "!rm old/a", ("old/b", TWO)),
+        *("!cp -p kept M/.a/mbox2maildir-prepared", (TREE, "old/b: done"), "= a/one b/two"),
+    ],
     "the_list_comes_from_a_backup_and_the_ledger_is_lost": [
         *(("a", ONE + TWO), FIRST, f"!cp {LIST} kept", LAST, f"!cp -p kept {LIST}; rm {LEDGER}", ("a", TWO)),
         *(LAST, "= one two"),
+        *(f"!cp -p kept {LIST}; rm {LEDGER}", (FIRST, "a: done before: the ledger of its folder is gone"), "= one two"),
+        *(f"!cp -p kept {LIST}", (LAST, "a: done before: the ledger of its folder is gone"), "= one two"),
     ],
     "a_sync_failed": [
         *(("a", ONE), FIRST, f"!echo '!' >>{LIST}", ("a", TWO), (FIRST, SYNC_FAILED), (LAST, SYNC_FAILED), "= one M+"),

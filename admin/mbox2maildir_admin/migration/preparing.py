@@ -220,7 +220,7 @@ def mend(
         one.take_begun()
     stage = one.stage
     if stage is Stage.OVER:
-        if one.prepared.batch not in verified and ledger.sources and not options.dry:
+        if one.prepared.batch not in verified and not options.dry:
             remove_list(opened.folder)
         one.prepared = Prepared(opened.folder)
     elif stage is Stage.BEGUN and not (options.again or ledger.damage or has_failed(ledger) or one.reader()):
@@ -387,8 +387,9 @@ def row_unchanged(record: Record, options: Options, path: bytes, name: bytes, sa
     origin = prepared.origin
     if not origin or not prepared.is_whole or prepared.batch or prepared.has_failed or options.decision != UNDECIDED:
         return None
+    # once the folder is done, its list may come from a backup
     is_same = origin.state == facts_of_mailbox(os.stat(path)) and origin.path in record.names_of(path)
-    if not is_same or Reading.of_words(origin.words).bare != options.extra.IS_BARE:
+    if not is_same or not record.prepared(name) or Reading.of_words(origin.words).bare != options.extra.IS_BARE:
         return None
     prepared.look(say)
     if not all(prepared.files) or prepared.edited or reader_in(record, name, prepared):
@@ -437,8 +438,10 @@ class Leftovers:
         for one in self.listed:
             try:
                 if one.name not in went:
-                    ledger = Ledger(folder_path(self.root, one.name))
-                    left += [one] * Preparation(self.record, one.name, ledger).is_open
+                    its = Preparation(self.record, one.name, Ledger(folder_path(self.root, one.name)))
+                    left += [one] * its.is_open
+                    if its.stage is Stage.OVER and not self.options.dry:
+                        remove_list(its.folder)
             except (Fault, OSError) as fault:
                 yield row_left(unspelled(one.path), one.name, fault)
         now = self.trees_now(went)
