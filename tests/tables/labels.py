@@ -158,13 +158,16 @@ def each_label_is_a_folder(home: Path) -> None:
 
 
 def forms_of_fields(home: Path) -> None:
-    """The folders of labels, whatever the form of their field."""
+    """The folders of labels, whatever the form of their field. The rows say which labels have one folder."""
     rows = [(str(number), labels) for number, (labels, _) in enumerate(FORMS)]
     # so that no label is one of more than half of the messages
     takeout(home, [*rows, *[("other", "Important")] * len(FORMS)])
     text = (home / "t.mbox").read_bytes()
     mailbox(home / "t.mbox", re.sub(rb"(?m)^(X-GM-THRID.*\n)(X-Gmail-Labels: Inbox,inbox\n)", rb"\2\1", text))
-    expect("migrate --labels M t.mbox", home, 0, None)
+    rows = by_json("migrate --labels M t.mbox", home).rows
+    said = {row["folder"]: one["says"] for row in rows for one in row["remarks"] if one["says"].startswith("its labels")}
+    wanted = {"INBOX": "Inbox and inbox", "Junk": "Junk and Spam", "Work-a": "Work.a and Work-a"}
+    equal("labels of one folder", said, {folder: f"its labels are {labels}" for folder, labels in wanted.items()})
     there = folders_in(home / "M")
     for number, (labels, folders) in enumerate(FORMS):
         equal(labels, [folder for folder in sorted(there) if str(number) in there[folder]], folders)

@@ -98,6 +98,8 @@ class Sorting:
         self.languages = *noted.languages, *(() if found in ("Inbox", *noted.languages) else (found,))
         self.names = own_names(self.languages)
         self.roles = self.roles_by(choosing)
+        # of names of one meaning, such as `Draft` and `Drafts`, the first one
+        self.gmails = {self.roles[label]: label for label in reversed(self.counts) if label in self.roles}
 
     def roles_by(self, choosing: Choosing) -> Roles:
         """What the labels stand for that make no folders of their names, and made none before: what was said of them
@@ -158,12 +160,11 @@ class Sorting:
         return LabelFolders({folder: places[folder] for folder in order}, alike, kept)
 
     def folders_of(self, labels: tuple[str, ...]) -> dict[bytes, list[str]]:
-        """The folders of a message with these labels, and the labels that give each. Names of one meaning, such as
-        `Draft` and `Drafts`, count as one label."""
+        """The folders of a message with these labels, and the labels that give each."""
         users = [label for label in labels if label not in self.roles]
         gmails = {self.roles.get(label) for label in labels}
         several = [(on_disk(folder_of(label)), label) for label in users]
-        several += [(on_disk(own.value), own.value) for own in ORDER if own in gmails]
+        several += [(on_disk(own.value), self.gmails[own]) for own in ORDER if own in gmails]
         found: dict[bytes, list[str]] = {}
         for folder, label in several[:1] if self.choosing.word == ONE else several:
             found.setdefault(folder, []).append(label)
