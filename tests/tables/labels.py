@@ -164,8 +164,8 @@ def forms_of_fields(home: Path) -> None:
     takeout(home, [*rows, *[("other", "Important")] * len(FORMS)])
     text = (home / "t.mbox").read_bytes()
     mailbox(home / "t.mbox", re.sub(rb"(?m)^(X-GM-THRID.*\n)(X-Gmail-Labels: Inbox,inbox\n)", rb"\2\1", text))
-    rows = by_json("migrate --labels M t.mbox", home).rows
-    said = {row["folder"]: one["says"] for row in rows for one in row["remarks"] if one["says"].startswith("its labels")}
+    several = by_json("migrate --labels M t.mbox", home).rows
+    said = {row["folder"]: row["remarks"][0]["says"] for row in several if "its labels" in str(row["remarks"])}
     wanted = {"INBOX": "Inbox and inbox", "Junk": "Junk and Spam", "Work-a": "Work.a and Work-a"}
     equal("labels of one folder", said, {folder: f"its labels are {labels}" for folder, labels in wanted.items()})
     there = folders_in(home / "M")
