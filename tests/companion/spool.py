@@ -337,7 +337,14 @@ def second_mailbox(home: Path) -> None:
 
 def by_a_link(home: Path, words: list[str]) -> None:
     """A further mailbox is prepared and done by the commands that a link to the spool gives, and is not left after that
-    by the spool's own path."""
+    by the spool's own path, nor where the spool was moved to, also if it has grown meanwhile."""
+
+    def want_known(*each: str) -> None:
+        status, out, _ = run([*each, "m61one", "m61sales"], home)
+        equal(f"{each}: {out}", (status, "same-user" in out, "2 mailboxes: " in out), (0, False, True))
+        equal(f"{each}: where it goes", {*re.findall("m61sales -> ([^ :]+)", out)} - {"Sales"}, set())
+
+    mailbox(home / "spool/m61sales", THREE)
     (home / "link").symlink_to("spool")
     for more in (["--prepare", "--unread"], list[str]()):
         left = row_in(run([*words, *more, "link", "m61one", "m61sales"], home)[1], "m61sales")
@@ -345,19 +352,20 @@ def by_a_link(home: Path, words: list[str]) -> None:
             given = left.command.replace("--folder NAME", "--folder Sales").split()
             equal("its command", run(["/usr/bin/env", *given], home)[0], 0)
         for place in ("spool", "link"):
-            status, out, _ = run([*words, *more, place, "m61one", "m61sales"], home)
-            equal(f"{place} {more}: {out}", (status, "same-user" in out), (0, False))
-    equal("what is there", subjects(home / "homes/m61one/Maildir/.Sales"), ["two"])
+            want_known(*words, *more, place)
+        if more:
+            (home / "spool").rename(home / "aside")
+            want_known(*words, *more, "aside")
+            (home / "aside").rename(home / "spool")
+    equal("what is there", subjects(home / "homes/m61one/Maildir/.Sales"), ["three"])
     (home / "link").unlink()
-    # the mailboxes are moved aside
     (home / "spool").rename(home / "aside")
-    for each in ([*words, "aside"], ["verify", "--users", "aside"], ["back", "--users", "--dry-run", "aside"]):
-        status, out, _ = run([*each, "m61one", "m61sales"], home)
-        equal(f"{each}: {out}", (status, "2 mailboxes: " in out), (0, True))
+    for each in (words, ["verify", "--users"], ["back", "--users", "--dry-run"]):
+        want_known(*each, "aside")
     (home / "aside").rename(home / "older")
-    mailbox(home / "older/m61sales", TWO + THREE)
-    equal("one that has grown", run([*words, "older", "m61one", "m61sales"], home)[0], 0)
-    equal("and what is there", subjects(home / "homes/m61one/Maildir/.Sales"), ["three", "two"])
+    mailbox(home / "older/m61sales", THREE + TWO)
+    want_known(*words, "older")
+    equal("what has come", subjects(home / "homes/m61one/Maildir/.Sales"), ["three", "two"])
     (home / "older").rename(home / "spool")
 
 

@@ -381,6 +381,10 @@ STORIES: dict[str, list[Step]] = {
         *(*TEN, "!mv old/3 old/new", FIRST_OF_TREE, "!test -e M/.3", TREE, "!test ! -e M/.3"),
         f"= {ALL_TEN.replace('3/one ', '')} new/one",
     ],
+    "one_that_was_given_a_folder_and_was_moved": [
+        *(("a", ONE), "migrate --prepare --unread --folder X M a", "!mv a b", ("b", ONE + TWO)),
+        *(("migrate M b", "b: done: 1 prepared before"), "= X/one X/two"),
+    ],
     # the name of one is the beginning of the other's
     "another_tree": [
         *(*TEN[:-1], ("older/c", TWO), f"{FIRST_OF_TREE} older", (TREE, f"{TEN_DONE}\nolder/c: {NOT_MET}")),

@@ -196,6 +196,10 @@ class History:
         """The mailbox that a folder was prepared from last, if nothing of the folder is done since."""
         return self._prepared.get(folder)
 
+    def all_prepared(self) -> Iterable[RecordLine]:
+        """The same of all folders."""
+        return self._prepared.values()
+
     def prepared_from(self, paths: Container[str]) -> list[bytes]:
         """The folders that were prepared last from one of some paths, and of which nothing is done since."""
         return [folder for folder, line in self._prepared.items() if line.path in paths]

@@ -10,7 +10,7 @@ from ..faults import Fault, Left, Reason, fault_of
 from ..kinds.folders import Profiles
 from ..kinds.named import is_no_mail, name_of_folder
 from ..ledger.history import Event, History, Note, RecordLine
-from ..ledger.record import Record, is_gone, unspelled
+from ..ledger.record import Record, unspelled
 from ..looks import is_file, is_there, may_be
 from ..maildir.files import mail_in
 from ..maildir.folders import COPIES, COPY, INBOX, folder_on_disk, folder_path, folder_shown, words_of
@@ -78,8 +78,9 @@ def recorded_or_moved(one: Planned, record: History) -> Planned:
 
 
 def folders_of_moved(path: bytes, record: History) -> list[bytes]:
-    """The folders of mailboxes that had the bytes of a file, or of its beginning, and are gone: it is one of them, moved,
-    if the record does not have its path. Of several, those count that had its name."""
+    """The folders of mailboxes that had the bytes of a file, or of its beginning, and are gone, or from which they were
+    prepared: it is one of them, moved, if the record does not have its path. Of several, those count that had its
+    name."""
     try:
         mailbox = Mailbox.open(path) if is_file(path) else None
     except (Fault, OSError):
@@ -88,19 +89,21 @@ def folders_of_moved(path: bytes, record: History) -> list[bytes]:
     if not mailbox:
         return []
     with mailbox:
-        same = record.lines_of(mailbox) if mailbox.size else []
-        lines = [one for one in same if is_gone(one.path)] or begun_in(mailbox, record)
+        lines = lines_of_moved(mailbox, record)
     # the mail of a Takeout is in the folders of its labels
     lines = [one for one in lines if not Reading.of_words(one.words).part]
     named_so = [one for one in lines if os.path.basename(unspelled(one.path)) == os.path.basename(path)]
     return list(dict.fromkeys(one.about.folder for one in named_so or lines))
 
 
-def begun_in(mailbox: Mailbox, record: History) -> list[RecordLine]:
-    """The lines about mailboxes with mail that are gone, and that had the bytes with which this one begins, as many as
-    any had: it has grown. It is read as far as the largest that is gone."""
-    smaller = [one for one in record.lines() if one.messages and 0 < one.about.size < mailbox.size]
-    gone = [one for one in smaller if not may_be(is_there, unspelled(one.path))]
+def lines_of_moved(mailbox: Mailbox, record: History) -> list[RecordLine]:
+    """The lines about mailboxes that are gone, and had the bytes of this one or, if none had, the most of those with which
+    it begins: then it has grown. It is read as far as the largest that is gone."""
+    several = (*record.lines_of(mailbox), *record.lines(), *record.all_prepared())
+    smaller = [
+        one for one in several if one.about.size == mailbox.size or one.about.size < mailbox.size and one.messages
+    ]
+    gone = [one for one in smaller if one.about.size and not may_be(is_there, unspelled(one.path))]
     beginnings = mailbox.beginnings({one.about.size for one in gone})
     its = [one for one in gone if beginnings.get(one.about.size) == one.about.digest]
     return [one for one in its if one.about.size == max(other.about.size for other in its)]
