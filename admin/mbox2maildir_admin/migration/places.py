@@ -97,8 +97,8 @@ def folders_of_moved(path: bytes, record: History) -> list[bytes]:
 
 
 def lines_of_moved(mailbox: Mailbox, record: History) -> list[RecordLine]:
-    """The lines about mailboxes that are gone, and had the bytes of this one or, if none had, the most of those with which
-    it begins: then it has grown. It is read as far as the largest that is gone."""
+    """The lines about mailboxes that are gone, and had the bytes of this one or, if none had, the most of those with
+    which it begins: then it has grown. It is read as far as the largest that is gone."""
     several = (*record.lines_of(mailbox), *record.lines(), *record.all_prepared())
     smaller = [
         one for one in several if one.about.size == mailbox.size or one.about.size < mailbox.size and one.messages
