@@ -443,6 +443,11 @@ STORIES: dict[str, list[Step]] = {
         ]
         for number, (first, last) in enumerate((("a", "b"), ("b", "a")), 1)
     },
+    "a_run_with_dovecot_was_killed_before_it_goes_back": [
+        *(("a", NUMBERED), *killed("migrate --dovecot M a")),
+        "!$(mbox2maildir-admin back --now M a 2>&1 | grep -- '-admin migrate') --now",
+        ("back --dovecot M a", "a: nothing new"),
+    ],
     # nobody knows why only some of it is there
     "it_was_converted_by_hand": [
         *(("a", ONE + TWO), "!mbox2maildir convert M a", ("migrate M a", OF_NOBODY), DATED, ("migrate M a", BEFORE)),

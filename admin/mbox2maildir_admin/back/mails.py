@@ -21,6 +21,7 @@ from ..mbox.bases import BASE, before_info
 from ..mbox.core import forms_of
 from ..mbox.files import open_file
 from ..nexts import Runs, run_next
+from ..readings.reading import Reading
 from ..remarks import Remark
 from ..terminal import operand
 from ..units import Say
@@ -171,9 +172,10 @@ def lines_about(root: bytes, places: Iterable[bytes]) -> Iterator[tuple[bytes, l
         is_prepared = has_list(path)
         # a run was killed that may have placed something; what is only to go back has no file of its own
         batches = (ledger.open.get(ledger.pending(one) or 0) for one in ledger.paths())
-        begun = [one.path for one in batches if one and set(one.letters) - set(RETURNED)]
+        begun = [one for one in batches if one and set(one.letters) - set(RETURNED)]
         if is_prepared or begun:
-            then = run_next(Runs.MIGRATE, operand(root), *begun[:1] or ["MAILBOX"])
+            dovecot = ["--dovecot" for one in begun[:1] if Reading.of_words(one.head.words).bare]
+            then = run_next(Runs.MIGRATE, *dovecot, operand(root), *[one.path for one in begun[:1]] or ["MAILBOX"])
             raise Fault(NOT_DONE % folder_shown(folder), Reason.PREPARED if is_prepared else Reason.OTHER, then)
         yield folder, [line for line in ledger.message_lines(None) if line.state is not State.UNDONE]
 
