@@ -47,6 +47,22 @@ def names_that_no_line_can_have(home: Home) -> None:
     goes_back(home, "one more", 0, 1)
 
 
+def what_was_gone_from_the_mailbox(home: Home) -> None:
+    """Messages were gone from the mailbox when it was migrated again. The one that is still in the Maildir goes back,
+    and the row says so; what was deleted there too stays away."""
+    for numbers in (0, 1, 2), (2,):
+        home.write("OLD", letters(*numbers))
+        home.done("OLD")
+    home.take(1)
+    home.place_file("17000.1.host:2,", mail_of(letters(3))[0])
+    row = home.place.run(["back", "--json", "--now", "--dry-run", "M", "OLD"]).rows[0]
+    says = [one["says"] for one in row["remarks"]]
+    equal("a rehearsal", (row["messages"], says), (2, ["1 message in it again that had been gone from it"]))
+    row = home.place.run(["back", "--json", "--now", "M", "OLD"]).rows[0]
+    equal("what is said", [one["says"] for one in row["remarks"]], says)
+    equal("the mail", sorted(map(number_of, mail_of((home.path / "OLD").read_bytes()))), [0, 2, 3])
+
+
 def one_that_went_back_before(home: Home) -> None:
     """A message went back, and was deleted everywhere since. Another mailbox brings it, and another program renames its
     file: it is there, and was not deleted."""
@@ -114,7 +130,7 @@ def a_profile_of_thunderbird(home: Home) -> None:
 
 RULES = (
     *(a_name_that_was_placed_again, names_that_no_line_can_have, one_that_went_back_before),
-    *(a_mailbox_that_has_more, a_profile_of_thunderbird),
+    *(what_was_gone_from_the_mailbox, a_mailbox_that_has_more, a_profile_of_thunderbird),
 )
 
 if __name__ == "__main__":

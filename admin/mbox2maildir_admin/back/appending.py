@@ -157,13 +157,15 @@ class Way(NamedTuple):
 
 class Goes(NamedTuple):
     """What goes back into a mailbox: the messages that are appended, which are an addition of this size; those that it
-    has already, with their places; those that it cannot hold; and whether it has more than the Maildir."""
+    has already, with their places; those that it cannot hold; whether it has more than the Maildir; and how many of the
+    first had been gone from it."""
 
     entries: Sequence[Appended]
     size: int
     there: Sequence[tuple[Mail, int]]
     refused: Sequence[Mail]
     has_more: bool
+    regained: int
 
 
 class Appending:
@@ -215,7 +217,8 @@ class Appending:
     def what_goes(self, addition: NewFile) -> Goes:
         """What becomes of the mail. What is appended is in the addition then."""
         # what the mailbox did not bring is there already, wherever it comes from
-        are_known, _ = self.known.ledger.sources.get(self.known.path, Source()).known(self.inventory)
+        source = self.known.ledger.sources.get(self.known.path, Source())
+        are_known, _ = source.known(self.inventory)
         new: collections.defaultdict[bytes, list[int]] = collections.defaultdict(list)
         for place, is_known in enumerate(are_known):
             if not is_known:
@@ -232,7 +235,8 @@ class Appending:
             entries = self.write_to(addition, rest)
             bad = self.unheld(addition, entries)
             if not bad:
-                return Goes(entries, addition.size if entries else 0, there, refused, any(new.values()))
+                size, regained = addition.size if entries else 0, sum(one.mail.core in source.lost for one in entries)
+                return Goes(entries, size, there, refused, any(new.values()), regained)
             # one may be so in two ways
             refused += dict.fromkeys(bad)
             rest = [one.mail for one in entries if one.mail not in bad]
@@ -351,7 +355,7 @@ class Appending:
         """The row of the mailbox."""
         count, there, is_dry = len(goes.entries) + len(goes.there), len(goes.there), self.way.options.dry
         verdict = (Verdict.WOULD_BACK if is_dry else Verdict.BACK) if count else Verdict.NOTHING_NEW
-        says = Says.IN_MAILBOX.of_any(there)
+        says = Says.REGAINED.of_any(goes.regained) + Says.IN_MAILBOX.of_any(there)
         taken = [one.taken for one in goes.entries if one.taken]
         names = {name.lower(): named(name) for name in itertools.chain.from_iterable(taken)}
         says += Says.FIELDS_LEFT_OUT.of_any(len(taken), ", ".join(names.values()))
