@@ -796,13 +796,14 @@ def room_for_each_folder(home: Path) -> None:
 
 def a_label_that_no_message_has(home: Path) -> None:
     """It is named, with those that are spelled alike, also by a rehearsal; with several Takeouts if none has it. Of one
-    that cannot be read nothing is said."""
+    that cannot be read nothing is said. What was said of it does not bind a later run."""
     takeout(home, [("one", "Inbox,Garden,Opened"), ("two", "Sent,Gardens"), ("three", "Sent")])
     takeout(home, [("four", "Inbox,Werbung"), ("five", "Sent"), ("six", "Inbox")], "u.mbox")
     said = "mbox2maildir-admin: --label {}: no message that was read has this label{}\n"
     for label, alike in (
         ("gardn=none", "; spelled alike: Garden, Gardens"),
         ("Kategorie: x=read", ""),
+        ("Nope=none", ""),
         ("Werbung=folder", ""),
     ):
         err = run(["migrate", "--dry-run", "--labels", "--label", label, "M", "t.mbox"], home).err
@@ -814,6 +815,10 @@ def a_label_that_no_message_has(home: Path) -> None:
     equal("the folders", [*folders_in(home / "M")], ["", ".Garden", ".Sent"])
     mailbox(home / "t.mbox", ONE)
     equal("of none", run(["migrate", "--labels", "--label", "x=none", "N", "t.mbox"], home).err, "")
+    equal("what a later run may say", run([*LABELS[:3], "--label", "gardn=none", "M", "u.mbox"], home).status, 0)
+    takeout(home, [("four", "gardn"), ("five", "Sent"), ("six", "Inbox")], "u.mbox")
+    equal("of a new label", run([*LABELS[:3], "--label", "gardn=folder", "M", "u.mbox"], home).status, 0)
+    equal("its folder", folders_in(home / "M")[".gardn"], ["four"])
 
 
 def mail_that_goes_back(home: Path) -> None:

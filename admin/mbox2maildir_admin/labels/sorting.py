@@ -65,11 +65,12 @@ class LabelsLeft(Left):
 
 class LabelFolders(NamedTuple):
     """The places of the messages that each folder gets, by its name on the disk; the labels of different names, if they
-    give one folder; and the flags of all messages."""
+    give one folder; the flags of all messages; and what the record is to note of all that."""
 
     places: Mapping[bytes, Sequence[int]]
     labels: Mapping[bytes, Sequence[str]]
     kept: KeptFlags
+    noted: Noted
 
 
 class Sorting:
@@ -78,7 +79,7 @@ class Sorting:
     def __init__(self, headers: Iterable[bytes], choosing: Choosing, noted: Noted) -> None:
         """Takes the headers of the messages, what is said of labels, and what an earlier run has noted. Raises
         LabelsLeft if one has no labels, or if they cannot be read."""
-        self.choosing, self.before = choosing, noted.folders
+        self.choosing, self.noted, self.before = choosing, noted, noted.folders
         self.messages: list[tuple[str, ...]] = []
         # how many messages have each label
         self.counts: collections.Counter[str] = collections.Counter()
@@ -157,7 +158,10 @@ class Sorting:
         order = sorted(places, key=lambda folder: (folder != INBOX, folder))
         kept = KeptFlags(GMAIL, *letters_by(self.messages, self.roles))
         alike = {folder: list(its) for folder, its in labels.items() if len(its) > 1}
-        return LabelFolders({folder: places[folder] for folder in order}, alike, kept)
+        # what is said of a label that no message has had is not noted: nothing came of it
+        given = (one for one in self.choosing.given if one[0] in self.counts or self.noted.choosing.gives(one[0]))
+        noted = Noted(self.choosing._replace(given=tuple(given)), tuple(order), self.languages)
+        return LabelFolders({folder: places[folder] for folder in order}, alike, kept, noted)
 
     def folders_of(self, labels: tuple[str, ...]) -> dict[bytes, list[str]]:
         """The folders of a message with these labels, and the labels that give each."""

@@ -67,14 +67,12 @@ def migrate_takeouts(root: bytes, names: Sequence[bytes], options: Options, obse
 
 @dataclass(frozen=True)
 class Takeout:
-    """A Takeout that was read: what stands for it, its text and messages, which of these go into which folder, and the
-    languages of Gmail's own labels."""
+    """A Takeout that was read: what stands for it, its text and messages, and which of these go into which folder."""
 
     choice: Choice
     text: Text
     inventory: Inventory
     folders: LabelFolders
-    languages: tuple[str, ...]
 
     @functools.cached_property
     def cores(self) -> collections.Counter[bytes]:
@@ -125,7 +123,7 @@ class Takeouts(Migration):
 
             plain = {label.casefold(): label for label in sorted(self.labels)}
             for label, gives in unknown:
-                near = [named(plain[one]) for one in get_close_matches(label.casefold(), plain)]
+                near = [named(plain[one]) for one in get_close_matches(label.casefold(), plain, cutoff=0.7)]
                 complain(NOT_THERE % (named(label), gives) + (ALIKE % ", ".join(near) if near else ""))
 
     def tell_once_synced(self, ended: Outcome) -> None:
@@ -148,8 +146,7 @@ class Takeouts(Migration):
                 # each folder wants room for its text again, and for its messages
                 self.want_room(Need.of(self.disk, [], max(map(takeout.size, folders))))
                 self.record.make()
-                now = Noted(choosing, folders, takeout.languages)
-                note(self.record, opened.mailbox, now, len(takeout.inventory))
+                note(self.record, opened.mailbox, takeout.folders.noted, len(takeout.inventory))
                 self.observer.total += len(folders) - 1
                 self.placed.clear()
                 for folder in folders:
@@ -236,7 +233,7 @@ class Takeouts(Migration):
             self.labels.update(sorting.counts)
             if noted.folders and sorting.contradicts(noted.choosing):
                 raise self.said_otherwise(opened, noted.choosing)
-            yield Takeout(choice, text, inventory, sorting.folders(), sorting.languages)
+            yield Takeout(choice, text, inventory, sorting.folders())
 
     def into(self, folder: bytes, opened: Opened) -> Opened:
         """The Takeout in a folder of labels, which people may have given another name. Notes where that is."""
