@@ -9,7 +9,18 @@ from pathlib import Path
 
 from tests.support.checks import LATER, equal
 from tests.support.copies import Copies, Meanwhile
-from tests.support.homes import by_json, check_all, checks_in, expect, mail_in, mailbox, make_maildir, subjects
+from tests.support.homes import (
+    by_json,
+    check_all,
+    checks_in,
+    expect,
+    fake,
+    mail_in,
+    mailbox,
+    make_maildir,
+    restore,
+    subjects,
+)
 from tests.support.ledgers import RECORD, take_back_ends
 from tests.support.mail import ONE
 from tests.support.running import BY_OTHERS, Kill, Run
@@ -181,6 +192,16 @@ def another_list(home: Path) -> None:
     equal("another", (row["reason"], (home / "M/mbox2maildir-messages").read_bytes()), ("numbered", before))
     expect(row.command, home, 0, None)
     equal("its mail", subjects(home / "M"), ["0", "0", "1", "1"])
+
+
+def looked_at_meanwhile(home: Path) -> None:
+    """Dovecot looks at the folder while the run converts: the row says what to run, which goes on."""
+    fake(home, f"'{home}/real' \"$@\"; : >dovecot.index.log")
+    row = migrated(home, text_of(*FIELDS)).row
+    restore(home)
+    says = f"{LOOKED}: run this again, which goes on without its UIDs"
+    equal("looked", (row["reason"], row["says"]), ("numbered", says))
+    equal("again", migrated(home, text_of(*FIELDS)).status, 0)
 
 
 def subscriptions(home: Path) -> None:

@@ -134,7 +134,8 @@ class Dovecot(Extra):
             kept = self.kept_from(one)
         except Left as left:
             if not one.was_begun:
-                raise
+                # it is there since this run has begun
+                raise Left("%s: %s" % (left, GOES_ON), left.reason) from left
             # a conversion that was begun goes on, since no other command would finish it
             kept = [Says.WITHOUT_UIDS.of(left)]
         if kept is not None:
