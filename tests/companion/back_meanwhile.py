@@ -297,7 +297,7 @@ def nothing_shows_what_is_new(home: Home) -> None:
     home.begin("--jobs", "1")
     home.write("mail/a", OLD)
     home.place.run(["migrate", "--json", "--now", "--prepare", "--unread", "M", "mail"])
-    want_left(home, "what is only prepared", "was interrupted: run it again first")
+    want_left(home, "what is only prepared", "mail is only prepared in a: finish or remove that first")
     box = begun(home, NEW)
     with open(home.ledger("a"), "ab") as file:
         file.write(b"<\t%s\n" % bytes(box))

@@ -28,6 +28,8 @@ KILLED = killed(LAST)
 BRINGS = (
     "printed() { mbox2maildir-admin migrate --now \"$@\" | grep -v -e --undo | grep -o -e '--folder [a-z]'; }; printed"
 )
+# what the way back says
+BACK = "!mbox2maildir-admin back --now 2>said M old"
 TEN: list[Step] = [*((f"old/{number}", ONE) for number in range(10)), FIRST_OF_TREE]
 ALL_TEN = " ".join(f"{number}/one" for number in range(10))
 # of a mailbox that is not met, the path is given that it has without a link
@@ -319,6 +321,19 @@ STORIES: dict[str, list[Step]] = {
     "undone_by_a_list_from_a_backup": [
         *(("a", ONE), FIRST, f"!cp {LIST} kept", LAST, f"!cp -p kept {LIST}"),
         *(("migrate --undo M a", "a: undone: removed 1 message"), "="),
+    ],
+    # what is printed finishes it, removes it, or goes on with what was begun
+    "it_goes_back": [
+        *(("old/a", ONE), f"{FIRST_OF_TREE} --dovecot", f"{BACK}; grep -q 'only prepared in a: ' said"),
+        *('!eval "$(grep -e --dovecot said)"', f"{BACK} && test ! -s said", "= a/one"),
+    ],
+    "it_goes_back_and_its_mailbox_was_moved": [
+        *(("old/a", ONE), FIRST_OF_TREE, "!mv old older", f"{BACK}er; test $(grep -c 'admin migrate' said) = 1"),
+        *('!eval "$(grep -e --undo said)"', f"{BACK}er; test ! -s said", "="),
+    ],
+    "it_goes_back_and_was_begun": [
+        *steps((r"old/a\b", ONE), FIRST_OF_TREE, (r"old/a\b", ONE + TWO), *killed(TREE)),
+        *(f"{BACK}; grep -q interrupted said", '!eval "$(grep -e migrate said | tail -1)"', r"= a\b/one a\b/two"),
     ],
     # the command that is printed undoes it: another one would double the mail
     "it_went_into_another_folder": [

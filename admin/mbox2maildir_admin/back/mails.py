@@ -13,14 +13,15 @@ from ..faults import Fault, Reason
 from ..ledger.assign import File, by_form, files_of
 from ..ledger.lines import RETURNED, Line, State
 from ..ledger.ledger import Ledger
-from ..ledger.prepared import has_list
-from ..looks import is_link, state_at
+from ..ledger.prepared import Origin, origin_in
+from ..ledger.record import unspelled
+from ..looks import is_link, is_there, may_be, state_at
 from ..maildir.files import changed_at, listings_of
-from ..maildir.folders import folder_shown, folders_in, name_of
+from ..maildir.folders import folder_shown, folders_in, name_of, words_of
 from ..mbox.bases import BASE, before_info
 from ..mbox.core import forms_of
 from ..mbox.files import open_file
-from ..nexts import Runs, run_next
+from ..nexts import NOTHING, Does, Next, Runs, run_next
 from ..readings.reading import Reading
 from ..remarks import Remark
 from ..terminal import operand
@@ -28,6 +29,7 @@ from ..units import Say
 
 DAMAGED = "the ledger of %s is damaged in line %d, so nothing shows which mail came from the old mailboxes"
 NOT_DONE = "a migrate into %s was interrupted: run it again first"
+ONLY_PREPARED = "mail is only prepared in %s: finish or remove that first"
 NOT_UNDONE = "the undo of %s was interrupted: run it again first"
 One = TypeVar("One")
 
@@ -169,15 +171,33 @@ def lines_about(root: bytes, places: Iterable[bytes]) -> Iterator[tuple[bytes, l
             raise Fault(NOT_UNDONE % min(ledger.leaving), Reason.UNDO)
         if ledger.damage:
             raise Fault(DAMAGED % (folder_shown(folder), ledger.damage), Reason.LEDGER)
-        is_prepared = has_list(path)
+        # beside mail, a list comes from a backup
+        origin = None if ledger.sources else origin_in(path)
         # a run was killed that may have placed something; what is only to go back has no file of its own
         batches = (ledger.open.get(ledger.pending(one) or 0) for one in ledger.paths())
         begun = [one for one in batches if one and set(one.letters) - set(RETURNED)]
-        if is_prepared or begun:
-            dovecot = ["--dovecot" for one in begun[:1] if Reading.of_words(one.head.words).bare]
-            then = run_next(Runs.MIGRATE, *dovecot, operand(root), *[one.path for one in begun[:1]] or ["MAILBOX"])
-            raise Fault(NOT_DONE % folder_shown(folder), Reason.PREPARED if is_prepared else Reason.OTHER, then)
+        if begun:
+            names = operand(root), operand(unspelled(begun[0].path))
+            then = run_next(Runs.MIGRATE, *with_dovecot(begun[0].head.words), *names)
+            raise Fault(NOT_DONE % folder_shown(folder), Reason.PREPARED if origin else Reason.OTHER, then)
+        if origin:
+            then = next_of_prepared(operand(root), folder, origin)
+            raise Fault(ONLY_PREPARED % folder_shown(folder), Reason.PREPARED, then)
         yield folder, [line for line in ledger.message_lines(None) if line.state is not State.UNDONE]
+
+
+def next_of_prepared(root: str, folder: bytes, origin: Origin) -> Next:
+    """What ends that mail is only prepared in a folder of a Maildir: its mailbox is migrated, if that is still where it
+    was, or the mail is removed."""
+    path = unspelled(origin.path)
+    names = *words_of(folder), root, operand(path)
+    then = run_next(Runs.MIGRATE, *with_dovecot(origin.words), *names) if may_be(is_there, path) else NOTHING
+    return then + run_next(Runs.MIGRATE, "--undo", *names, does=Does.UNDO_PREPARED)
+
+
+def with_dovecot(words: str) -> list[str]:
+    """The option with which a mailbox was migrated that was read by these words."""
+    return ["--dovecot"] * Reading.of_words(words).bare
 
 
 def mails_of(root: bytes, places: Iterable[bytes], say: Say) -> Iterator[Mail]:
