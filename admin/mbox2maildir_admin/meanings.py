@@ -168,8 +168,8 @@ COUNTED = {
     "new-uids": "Some messages have new UIDs: clients fetch them again.",
     "no-uids": "No IMAP client has seen it so far, so there are no UIDs to keep.",
     "old-lock": "A lock that nobody holds any more was passed over.",
-    "other-form": "Another mailbox has some of its mail with other `>` or line ends. Both forms are there. If you want "
-    "only one, delete the other.",
+    "other-form": "Some of its mail is there with other `>` or line ends: another mailbox brought it, or a program has "
+    "rewritten this one since. If both forms are there, and you want only one, delete the other.",
     "other-programs": "Other programs had put mail into the folder. It stays.",
     "regained": "Mail that was gone from it is in it again.",
     "renamed": "Other programs gave files new names: `mbox2maildir convert` would deliver their messages again.",

@@ -158,6 +158,7 @@ class Says:
     OTHER_OWNER = Sentence("other-owner", "of another owner {}")
     DOUBTFUL_LINE = Sentence("doubtful-line", "doubtful lines {}")
     WITHOUT_FIELDS = Sentence("without-fields", "without fields {}")
+    IN_OTHER_FORM = Sentence("other-form", "in another form {}")
 
 
 WORDS = (one.word for one in vars(Says).values() if isinstance(one, Sentence))

@@ -25,6 +25,7 @@ CAME_BACK = "a: done: ...up to {} that had been deleted or moved came back".form
 # lines `From ` within messages that their lengths end, and one that nobody has quoted
 SHED = [with_length(head, b"hello\nFrom the shed.\n") + b"\n" for head in (A, B, C)]
 QUOTED = SHED[0].replace(b"\nFrom the", b"\n>From the")
+OF_MUTT = with_length(A, b"hello\n>From the shed.\n") + b"\n" + with_length(B, b"hello\n") + b"\n"
 AFAR = FOUR.replace(b"hello\n", b"hello\nFrom afar.\n")
 FIELD = with_length(A, b"hello\nFrom the shed:\nStatus: RO\nmore\n") + b"\n"
 FIRST_ALONE = '@"$real" convert . ../placed && kill -9 $PPID'
@@ -66,6 +67,13 @@ STORIES: dict[str, list[Step]] = {
         ]
         for option in ("", " --dovecot")
     },
+    # mutt adds lengths, and the `>` of the delivery stays; another message is nowhere
+    "it_has_another_form": [
+        *(("a", A + b"\nhello\n>From the shed.\n\n" + TWO), "migrate M a", "= one two"),
+        *(("a", OF_MUTT), ("migrate M a", "a: done before")),
+        *(("verify M a", "a: whole: in another form 1; without fields 1"), "!rm $(grep -l 'Subject: two' M/new/*)"),
+        ("verify M a", "a: not whole: in another form 1; nowhere 1"),
+    ],
     "what_looks_like_a_field_in_a_body": [
         *(("a", FIELD), "migrate --as mboxcl2 M a", ("a", FIELD.replace(b"RO", b"O ")), "migrate --as mboxcl2 M a"),
         "= one one",

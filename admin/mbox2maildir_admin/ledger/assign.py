@@ -204,8 +204,8 @@ def offers_of(files: Iterable[File], path: str) -> list[Offer]:
     offered for several reasons."""
     offers: list[Offer] = []
     for file, line in ((file, line) for file in files for line in reversed(file.lines)):
-        # what another mailbox brought is the same message in the same form only, as for `verify`; and what a killed run
-        # has only shared, it shared in that form
+        # what another mailbox brought is the same message in the same form only, and what a killed run has only shared,
+        # it shared in that form
         in_any_form = line.path == path and (line.state in BROUGHT or line.message.word != SHARED)
         offers += (Offer(why, file, line, line.message.bare, in_any_form) for why in whys_of(file, line, path))
     return sorted(

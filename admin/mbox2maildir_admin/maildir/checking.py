@@ -55,6 +55,7 @@ OTHER_OWNER = Sort(Says.OTHER_OWNER, False, "not owned by the owner of the Maild
 DOUBTFUL_LINE = Sort(Says.DOUBTFUL_LINE, False, "this From_ line may contain mail")
 # of some of the messages that are there, which are only counted
 WITHOUT_FIELDS = Sort(Says.WITHOUT_FIELDS, True)
+OTHER_FORM = Sort(Says.IN_OTHER_FORM, True)
 
 
 def last_paths(paths: Iterable[bytes]) -> list[bytes]:
@@ -65,7 +66,7 @@ def last_paths(paths: Iterable[bytes]) -> list[bytes]:
 # in the order in which `verify` has them; those of files with what is named of the paths that were noted
 MESSAGES, LINES = (THERE, OTHER_BYTES, RENAMED, NOWHERE), (DOUBTFUL_LINE,)
 FILES: dict[Sort, Callable[[Iterable[bytes]], list[bytes]]] = {DOUBLE: list, OTHER_OWNER: last_paths}
-SORTS = *MESSAGES, *FILES, *LINES, WITHOUT_FIELDS
+SORTS = *MESSAGES, *FILES, *LINES, WITHOUT_FIELDS, OTHER_FORM
 
 
 class Location(NamedTuple):
@@ -168,10 +169,10 @@ class Check:
             self.paths[place], self.found[place] = self.copies[digest].popitem()[1], RENAMED
             self.renamed[place] = digest
 
-    def take_alike(self, place: Place, path: bytes) -> None:
-        """Takes a file for a message that is nowhere, since they differ only in fields of mail programs."""
+    def take_alike(self, place: Place, path: bytes, sort: Sort) -> None:
+        """Takes a file for a message that is nowhere, since they differ only in what mail programs rewrite."""
         self.found[place] = THERE
-        self.besides[WITHOUT_FIELDS].append(place)
+        self.besides[sort].append(place)
         self.note_owner(path, os.lstat(path).st_uid)
 
     def find_doubles(self, maildir: bytes) -> None:
