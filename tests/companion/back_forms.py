@@ -245,7 +245,7 @@ def without_dates(home: Home) -> None:
     # nor does that one, once it has none either
     (home.path / "mail/inbox-back").write_bytes(old)
     house.deliver(PLAIN[:1], first=9)
-    equal("rows later", house.back(1), [Told("mail/inbox-back", "not-held", 1)])
+    equal("rows later", house.back(1), [Told("mail/inbox-back", "not-held", 1, ("M/new/9.M1.host",))])
 
 
 def without_an_end(home: Home) -> None:

@@ -209,9 +209,8 @@ class Appending:
         row = self.row(goes)
         if goes.refused and not goes.entries and was_empty:
             # what goes into none of the same form either
-            stay = "stays" if len(goes.refused) == 1 else "stay"
-            why = NOT_HELD % (counted(len(goes.refused), "message"), stay, first_of([one.path for one in goes.refused]))
-            return row._replace(verdict=Verdict.LEFT, reason=Reason.NOT_HELD, why=why), ()
+            fault = not_held(goes.refused)
+            return row._replace(verdict=Verdict.LEFT, reason=fault.reason, why=str(fault)), ()
         return row, goes.refused
 
     def what_goes(self, addition: NewFile) -> Goes:
@@ -362,6 +361,13 @@ class Appending:
         remarks = (*self.mailbox.remarks, *says, *self.numbering.remarks, *self.target.remarks)
         row = Row(self.target.path, self.target.folder, self.style.dialect.word, count, verdict, size=goes.size)
         return row._replace(remarks=remarks, next=self.numbering.next, is_back=True)
+
+
+def not_held(mails: Sequence[Mail]) -> Left:
+    """Why messages go back into no mailbox."""
+    stay = "stays" if len(mails) == 1 else "stay"
+    why = NOT_HELD % (counted(len(mails), "message"), stay, first_of([one.path for one in mails]))
+    return Left(why, Reason.NOT_HELD)
 
 
 def nothing_new(target: Target) -> Row:

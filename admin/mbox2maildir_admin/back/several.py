@@ -17,7 +17,7 @@ from ..nexts import NOTHING, Next, Runs, run_next
 from ..program import Program, find_program
 from ..remarks import Remark, Says, Sentence
 from ..terminal import first_of, named, operand
-from .appending import Returned, TakesNothing, Way, nothing_new
+from .appending import Returned, TakesNothing, Way, not_held, nothing_new
 from .journal import FULL, Journal
 from .mails import Findings, Slot, Target, findings_in
 from .places import Keeper, Names, Places
@@ -25,7 +25,6 @@ from .subscriptions import rows_of
 
 NO_RECORD = "it has no record, so nothing shows which mail came from the old mailboxes"
 TORN = "the message that begins in line %d is cut: a run was killed there, and another program has written after it"
-NOT_READ_BACK = "what would be appended to it would not be read back as it is"
 DISK_FULL = "no room is left on its disk, or on that of the Maildir"
 UNLESS = ", unless somebody has removed %s from the mailbox"
 # what the name of a Maildir ends in that has been moved aside
@@ -200,7 +199,7 @@ class Folders:
             rest = rest._replace(path=tried[-1], returned=())
             found = self.brought(rest)
             if not found:
-                yield left(rest._replace(remarks=()), Left(NOT_READ_BACK, Reason.NOT_HELD))
+                yield left(rest._replace(remarks=()), not_held(rest.mails))
                 return
             row, refused = found
             files = [one.path for one in rest.mails if one not in refused]
