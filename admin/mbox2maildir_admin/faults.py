@@ -5,7 +5,7 @@ import os
 from collections.abc import Iterable, Iterator, Sequence
 from typing import Optional, Union
 
-from .looks import ABSENT, is_folder, is_there, may_be
+from .looks import ABSENT, is_folder, is_surely, is_there
 from .nexts import NOTHING, Next, Phrase, Quote, Runs, Todo, by_word, lines_below, run_next, task
 from .terminal import complain, named, operand
 
@@ -96,6 +96,10 @@ REASONS = by_word(Reason)
 SETTLED = {Reason.LOCKED: task(Todo.WAIT), Reason.CHANGED: task(Todo.STOP_WRITER)}
 
 
+# errors of a disk that is full, is only read, or fails
+OF_DISKS = errno.ENOSPC, errno.EDQUOT, errno.EROFS, errno.EIO
+
+
 class Status:
     """How a command ends, as its exit status: all is well; something is left that a human settles; nothing is left but
     what the same command settles when it is run again (EX_TEMPFAIL of sysexits(3))."""
@@ -147,15 +151,13 @@ def fault_of(error: Union[Fault, OSError], path: bytes) -> Fault:
         return error
     place = path if error.filename is None else os.fsencode(error.filename)
     why, is_absent, then = error.strerror or str(error), error.errno in ABSENT, NOTHING
-    if error.errno == errno.EACCES:
-        # the folder above shows why it could not be made
-        then = run_next(Runs.LIST_ITSELF, operand(place if may_be(is_there, place) else os.path.dirname(place) or b"."))
-    elif is_absent:
-        # the folder above shows what is there, and what stands in place of a folder shows itself
-        above = place
-        while above and not may_be(is_there, above):
-            above = os.path.dirname(above)
-        then = run_next(Runs.LIST if may_be(is_folder, above or b".") else Runs.LIST_ITSELF, operand(above or b"."))
+    # the folder above shows why a file could not be made or looked at, and what is there
+    above = place
+    while above and not is_surely(is_there, above):
+        above = os.path.dirname(above)
+    if error.errno == errno.EACCES or is_absent:
+        may_list = is_absent and is_surely(is_folder, above or b".")
+        then = run_next(Runs.LIST if may_list else Runs.LIST_ITSELF, operand(above or b"."))
     if place != path:
         return Fault(why, Reason.ERROR, then, place=place)
     return Left(why, Reason.MISSING if is_absent else Reason.ERROR, then)
@@ -170,9 +172,10 @@ def complain_of(error: Union[Fault, OSError], path: bytes = b"") -> None:
 
 @contextlib.contextmanager
 def naming(path: bytes, reason: Phrase = Reason.ERROR) -> Iterator[None]:
-    """Turns an error in here into a fault that names this file or folder, for a reason."""
+    """Turns an error in here into a fault that names this file or folder, for a reason, unless it is the disk's."""
     try:
         yield
     except OSError as error:
+        reason = Reason.ERROR if error.errno in OF_DISKS else reason
         then = fault_of(error, path).next if reason is Reason.ERROR else NOTHING
         raise Fault(error.strerror, reason, then, place=path) from error

@@ -8,7 +8,7 @@ from typing import NamedTuple
 from tests.support.cases import run_cases
 from tests.support.checks import equal, matches
 from tests.support.homes import at_home, expect, fake, hand_over, mailbox, make_maildir, subjects, want_strace
-from tests.support.ledgers import RECORD
+from tests.support.ledgers import LEDGER, RECORD
 from tests.support.mail import A, ONE, TWO
 from tests.support.running import OWNER, Desk
 
@@ -33,6 +33,10 @@ class Failing(NamedTuple):
 CALLS = {
     "a_sync": Failing("syncfs:error=EIO", "", SYNC_FAILED, SYNC_FAILED),
     "a_sync_of_new": Failing("fsync:error=EIO", "M/new", SYNC_FAILED, SYNC_FAILED),
+    # nothing is wrong with the ledger
+    "no_room_for_a_line": Failing(
+        "write:error=ENOSPC", f"M/{LEDGER}", f"left (error): M/{LEDGER}: No space left on device"
+    ),
     "no_such_sync": Failing("syncfs:error=ENOSYS", "", "done...", "2 mailboxes: 2 done before\n"),
     "no_sync_of_folders": Failing(
         "fsync:error=EINVAL",
@@ -89,6 +93,14 @@ def spoilt(home: Path) -> None:
         shutil.rmtree(home / "M")
 
 
+def closed(home: Path) -> None:
+    """Nobody can list what is in a folder that cannot be entered: the folder shows why."""
+    hand_over(mailbox(home / "closed/box", ONE), home / "closed")
+    (home / "closed").chmod(0)
+    ran = Desk(home, user=OWNER).run("kind closed/box".split())
+    matches("kind", ran.output, "closed/box: left (error): Permission denied\n    run this next:\n ... ls -ld closed\n")
+
+
 if __name__ == "__main__":
     cases = {name: partial(at_home, partial(attempt, one=one)) for name, one in CALLS.items()}
-    run_cases({**cases, "spoilt": partial(at_home, spoilt)})
+    run_cases({**cases, **{one.__name__: partial(at_home, one) for one in (spoilt, closed)}})

@@ -245,12 +245,11 @@ def lines_in(folder: bytes, name: bytes = LEDGER) -> Iterator[bytes]:
 def texts_in(folder: bytes, name: bytes = LEDGER) -> Iterator[bytes]:
     """The same, many lines at a time, with their ends."""
     path = os.path.join(folder, name)
-    try:
-        file = open(path, "rb", opener=lambda name, flags: os.open(name, flags | os.O_NOFOLLOW | os.O_NONBLOCK))
-    except (FileNotFoundError, NotADirectoryError):
-        return
-    except OSError as error:
-        raise Fault(error.strerror, Reason.LEDGER, place=path) from error
+    with naming(path, Reason.LEDGER):
+        try:
+            file = open(path, "rb", opener=lambda name, flags: os.open(name, flags | os.O_NOFOLLOW | os.O_NONBLOCK))
+        except (FileNotFoundError, NotADirectoryError):
+            return
     with file:
         want_trusted(path, os.fstat(file.fileno()))
         if OF_ANOTHER.match(file.peek(PIECE)):

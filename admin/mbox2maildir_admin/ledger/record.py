@@ -16,7 +16,7 @@ import time
 from collections.abc import Callable, Container, Iterator, Sequence
 from typing import Optional, Union
 
-from ..faults import Fault, Reason, fault_of
+from ..faults import Fault, Reason, fault_of, naming
 from ..looks import is_below, is_there, may_be, real_path
 from ..maildir.folders import folder_path, folders_in, name_of
 from ..maildir.making import LEDGER, RECORD, SyncNames, is_partly_there, make_alone, sync_folder, synced_once
@@ -114,12 +114,14 @@ class Record(History):
         name."""
         flags = os.O_NOFOLLOW | os.O_NONBLOCK | os.O_NOCTTY | os.O_CLOEXEC
         flags |= os.O_RDWR | os.O_APPEND | os.O_CREAT if make else os.O_RDONLY
-        try:
-            self._descriptor = os.open(self.path, flags, 0o600)
-        except OSError as fault:
-            if make or fault.errno != errno.ENOENT:
-                why = "it is a symbolic link" if fault.errno == errno.ELOOP else fault.strerror
-                raise Fault(why, Reason.RECORD, place=self.path) from fault
+        with naming(self.path, Reason.RECORD):
+            try:
+                self._descriptor = os.open(self.path, flags, 0o600)
+            except OSError as fault:
+                if fault.errno == errno.ELOOP:
+                    raise Fault("it is a symbolic link", Reason.RECORD, place=self.path) from fault
+                if make or fault.errno != errno.ENOENT:
+                    raise
         self.look()
         if not self.is_open:
             return
@@ -303,7 +305,7 @@ class Record(History):
         if not self.is_open:
             self.waiting += lines
             return
-        try:
+        with naming(self.path, Reason.RECORD):
             # if a full disk cut the line before, that is ended first, so that it becomes no other one
             begin = (CUT + b"\n") * self.is_cut + (FIRST_OF_RECORD + b"\n") * (not self.has_first_line)
             piece = begin + b"".join(one.line() for one in lines)
@@ -318,8 +320,6 @@ class Record(History):
             if any(one.what not in INDEX for one in lines):
                 os.fsync(self.descriptor)
             self.has_first_line = True
-        except OSError as fault:
-            raise Fault(fault.strerror, Reason.RECORD, place=self.path) from fault
 
 
 @functools.lru_cache(maxsize=1 << 10)
