@@ -42,7 +42,7 @@ TO_DO = {
     Reason.WORDS: "Put the path in quotes. To name the files `a` and `b` beside a file `a b`, write `./a ./b`",
     Reason.NO_FILE: "Remove it: a FIFO or a socket holds no mail",
     Reason.HOLES: "Find a complete copy",
-    Reason.MAILDIR: "Its command, or move its files as the line says",
+    Reason.MAILDIR: "Its command, or do as the line says",
     Reason.MH: "Its command, then move the folder away",
     Reason.LOCKED: sentence(Todo.WAIT.says) + ". A `.lock` file is ignored after 20 minutes",
     Reason.CHANGED: sentence(Todo.STOP_WRITER.says),

@@ -311,6 +311,33 @@ def profile(home: Path) -> None:
     equal("the only Inbox", by_json(["migrate", "--dry-run", "P", top], home).of(inbox)["folder"], "INBOX")
 
 
+def a_file_for_each_message(home: Path) -> None:
+    """A folder in which Thunderbird has one is left as a whole, whatever its messages begin with. Those beside it and
+    below it are migrated."""
+    top = "thunderbird/abcd1234.default-release"
+    local = f"{top}/Mail/Local Folders"
+    make_profile(home / top)
+    for name, text in (
+        ("Drafts/cur/1700000000000001.eml", ONE),
+        ("Drafts/cur/1700000000000002.eml", marked(b"1", ONE).split(b"\n", 1)[1]),
+        ("Drafts.sbd/Old/cur/1700000000000003-1.eml", marked(b"1", ONE)),
+        ("Drafts.sbd/New", ONE),
+        ("Sent/cur/1400000000000000", ONE),
+    ):
+        mailbox(home / local / name, text)
+    for path in (home / local).rglob("cur"):
+        path.with_name("tmp").mkdir()
+    for old in top, local, f"{local}/Drafts":
+        ran = by_json(["migrate", f"M{len(old)}", old], home)
+        left = {row["path"]: row["reason"] for row in ran.rows if row["verdict"] == "left"}
+        several = [f"{local}/{name}" for name in ("Drafts", "Drafts.sbd/Old", "Sent")]
+        wanted = {one: "maildir" for one in several if f"{one}/".startswith(f"{old}/")}
+        equal(f"{old}: what is left", left, wanted)
+    found = {path.parent.parent.name for path in (home / f"M{len(top)}").glob(".*/new/*")}
+    equal("the folders", {one for one in found if "Drafts" in one}, {".Drafts.New"})
+    equal("all folders", len(found), 6)
+
+
 def several_inboxes(home: Path) -> None:
     """The command that puts one of several Inboxes into INBOX has what was answered about deleted mail, of all or of
     one, dry or not. It is printed until INBOX has a mailbox, also for one that is named with the folder of its

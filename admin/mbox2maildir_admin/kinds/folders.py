@@ -20,6 +20,7 @@ from .starts import OPENING
 
 DirEntry = os.DirEntry[bytes]
 MAILDIR, MH = "it is a Maildir", "an MH folder"
+BY_THUNDERBIRD = "Thunderbird has a file for each message in it: copy them into an account with one file per folder"
 # what servers, and programs that copy mail, write beside the three folders of a Maildir, and what this program does
 OF_MAILDIR = pattern(
     rb"maildirfolder|maildirsize|subscriptions|dovecot.*|courier.*|\.uidvalidity|\.mbsyncstate.*|\.isyncuidmap\.db"
@@ -31,6 +32,8 @@ OF_MESSAGE = pattern(rb"[0-9]+\.[^.]+\..+|.+:2,[^.]*", re.DOTALL)
 KEYWORDS_OF_COURIER = b"courierimapkeywords"
 # Apple Mail exports the mailbox NAME as a folder NAME.mbox, in which a file of this name has the mail
 MBOX = b"mbox"
+# the names of messages that Thunderbird has in files of their own, beside an empty folder `tmp`
+OF_THUNDERBIRD, STORE = pattern(rb".+\.eml|[0-9]+", re.DOTALL), (b"cur", b"tmp")
 # the names of MH's messages, and the file in which MH keeps lists of them
 NUMBER, SEQUENCES = pattern(rb"[0-9]+"), b".mh_sequences"
 # how many bytes of a message show how it begins
@@ -79,6 +82,18 @@ def has_messages(folder: bytes) -> bool:
         return False
     are_named = all(OF_MESSAGE.fullmatch(one.name) and one.is_file(follow_symlinks=False) for one in entries)
     return are_named and any(OPENING.match(head_of(one.path)) for one in entries[:1])
+
+
+def has_store(entries: list[DirEntry]) -> bool:
+    """Whether a folder with these entries is one of Thunderbird's in which each message has a file."""
+    subs = {one.name: one.path for one in entries if one.is_dir(follow_symlinks=False)}
+    if not subs.keys() >= {*STORE}:
+        return False
+    try:
+        return any(map(OF_THUNDERBIRD.fullmatch, os.listdir(subs[b"cur"])))
+    except OSError:
+        # it is left for that reason later
+        return False
 
 
 def is_of_maildir(entry: DirEntry) -> bool:
@@ -137,7 +152,7 @@ class Profile:
         self.givers: collections.defaultdict[bytes, set[bytes]] = collections.defaultdict(set)
         for top in OF_ACCOUNTS:
             for folder, folders, names in os.walk(os.path.join(self.path, top)):
-                if {b"cur", b"tmp"} <= set(folders):
+                if {*STORE} <= set(folders):
                     # each message has a file
                     folders.clear()
                     continue

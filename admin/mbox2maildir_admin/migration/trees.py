@@ -6,13 +6,16 @@ from typing import NamedTuple, Optional, Union
 
 from ..faults import Fault, Left, Reason
 from ..kinds.folders import (
+    BY_THUNDERBIRD,
     MAILDIR,
     MBOX,
     MH,
     SEQUENCES,
+    STORE,
     DirEntry,
     Profiles,
     has_maildir,
+    has_store,
     is_export,
     is_of_maildir,
     lacking_in,
@@ -141,8 +144,8 @@ class Tree:
         return [entry.path for entry in entries if self.take(entry)]
 
     def without_messages(self, folder: bytes, entries: list[DirEntry]) -> list[DirEntry]:
-        """The entries of a folder without those that count as one name: the parts of a Maildir, and the messages of
-        MH."""
+        """The entries of a folder without those that count as one name: the parts of a Maildir or of a folder of
+        Thunderbird's that is like one, and the messages of MH."""
         if has_maildir(entries):
             lacking, entries = lacking_in(entries), [entry for entry in entries if not is_of_maildir(entry)]
             above = next((one for one in self.maildirs if one.path == os.path.dirname(folder)), None)
@@ -154,6 +157,9 @@ class Tree:
                 below = os.path.relpath(folder, self.top)
                 place = folder_on_disk(below) if folder != self.old and is_text(below) else b""
             self.maildirs.append(Maildir(folder, place, bool(entries), lacking))
+        elif has_store(entries):
+            self.leave(folder, Left(BY_THUNDERBIRD, Reason.MAILDIR))
+            entries = [entry for entry in entries if entry.name not in STORE]
         mails = messages_of_mh(entries)
         if not mails:
             return entries
