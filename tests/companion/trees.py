@@ -472,6 +472,12 @@ STORIES: dict[str, list[Step]] = {
         *(("plain", ONE), ("status", ONE.replace(b"\n", b"\nStatus: RO\n", 1))),
         *(("migrate M status plain ./status", "plain: done: ...\nstatus: done"), "= one:S"),
     ],
+    # it is one mailbox, in one folder
+    "a_link_has_the_name_of_a_mailbox_that_was_renamed": [
+        *(("tree/box", ONE), "migrate M tree", ("tree/work", TWO), "migrate --prepare --unread M tree"),
+        "!cd tree; for a in box work; do mv $a new$a; ln -s new$a $a; done",
+        *("migrate M tree", "= box/one work/two", "migrate M tree", "= box/one work/two"),
+    ],
     "links_that_are_named": [
         *(
             ("else/box", ONE),

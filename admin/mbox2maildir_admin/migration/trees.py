@@ -1,7 +1,7 @@
 """The names below a folder of mailboxes, and the mailboxes among them."""
 import os
 import stat
-from collections.abc import Callable, Collection, Sequence
+from collections.abc import Callable, Collection, Mapping, Sequence
 from typing import NamedTuple, Optional, Union
 
 from ..faults import Fault, Left, Reason
@@ -272,12 +272,27 @@ class Tree:
                 self.leave(path, link_left(path))
             else:
                 links.append(recorded(Planned(path, folders[-1], leads_to=target), record))
+        found = self.without_targets(found, {one.leads_to: one.path for one in links if not one.why}, record)
         stay = [one for one in found if not one.why and record.folders_of(one.path)]
         taken.update(one.folder for one in [*stay, *links] if not one.why)
         moving = with_own_folders([one for one in found if one not in stay], taken, has_no_mail, self.words_by_hand)
         plan = sorted([*stay, *moving, *links], key=lambda one: one.path)
         taken.update(one.folder for one in plan if not one.why)
         return plan
+
+    def without_targets(
+        self, several: Sequence[Planned], links: Mapping[Optional[bytes], bytes], record: History
+    ) -> list[Planned]:
+        """Mailboxes without those to which symbolic links lead that are followed, and of which the record has nothing
+        by their own paths: such a mailbox was renamed, and has the folder of its link."""
+        rest = []
+        for one in several:
+            link = links.get(real_path(one.path)) if links else None
+            if link is None or record.folders_given(one.path):
+                rest.append(one)
+            else:
+                self.pass_over(one.path, Says.SAME_FILE.of(named(link)))
+        return rest
 
 
 def other_names(met: NamesMet) -> dict[bytes, list[bytes]]:
