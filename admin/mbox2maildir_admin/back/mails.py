@@ -150,11 +150,13 @@ def by_folder(pairs: Iterable[tuple[bytes, One]]) -> dict[bytes, list[One]]:
     return found
 
 
-def folders_once(root: bytes, with_mailbox: Container[bytes]) -> list[bytes]:
+def folders_once(maildir: bytes, with_mailbox: Container[bytes]) -> list[bytes]:
     """The paths of the folders of a Maildir, each folder once: of the links that lead to one, and its own name, those
     come first that have a mailbox."""
     found = dict[tuple[int, int], bytes]()
-    turns = {one: (one != root, name_of(root, one) not in with_mailbox, is_link(one)) for one in folders_in(root)}
+    turns = {
+        one: (one != maildir, name_of(maildir, one) not in with_mailbox, is_link(one)) for one in folders_in(maildir)
+    }
     for path in sorted(turns, key=lambda one: turns[one]):
         state = state_at(path)
         if state:
@@ -162,11 +164,11 @@ def folders_once(root: bytes, with_mailbox: Container[bytes]) -> list[bytes]:
     return [*found.values()]
 
 
-def lines_about(root: bytes, places: Iterable[bytes]) -> Iterator[tuple[bytes, list[Line]]]:
+def lines_about(maildir: bytes, places: Iterable[bytes]) -> Iterator[tuple[bytes, list[Line]]]:
     """The lines about the folders at these places of a Maildir. Raises Fault if a ledger does not say all that is in
     its folder."""
     for path in places:
-        folder, ledger = name_of(root, path), Ledger(path)
+        folder, ledger = name_of(maildir, path), Ledger(path)
         if ledger.leaving:
             raise Fault(NOT_UNDONE % min(ledger.leaving), Reason.UNDO)
         if ledger.damage:
@@ -177,20 +179,20 @@ def lines_about(root: bytes, places: Iterable[bytes]) -> Iterator[tuple[bytes, l
         batches = (ledger.open.get(ledger.pending(one) or 0) for one in ledger.paths())
         begun = [one for one in batches if one and set(one.letters) - set(RETURNED)]
         if begun:
-            names = operand(root), operand(unspelled(begun[0].path))
+            names = operand(maildir), operand(unspelled(begun[0].path))
             then = run_next(Runs.MIGRATE, *with_dovecot(begun[0].head.words), *names)
             raise Fault(NOT_DONE % folder_shown(folder), Reason.PREPARED if origin else Reason.OTHER, then)
         if origin:
-            then = next_of_prepared(operand(root), folder, origin)
+            then = next_of_prepared(operand(maildir), folder, origin)
             raise Fault(ONLY_PREPARED % folder_shown(folder), Reason.PREPARED, then)
         yield folder, [line for line in ledger.message_lines(None) if line.state is not State.UNDONE]
 
 
-def next_of_prepared(root: str, folder: bytes, origin: Origin) -> Next:
+def next_of_prepared(maildir: str, folder: bytes, origin: Origin) -> Next:
     """What ends that mail is only prepared in a folder of a Maildir: its mailbox is migrated, if that is still where it
     was, or the mail is removed."""
     path = unspelled(origin.path)
-    names = *words_of(folder), root, operand(path)
+    names = *words_of(folder), maildir, operand(path)
     then = run_next(Runs.MIGRATE, *with_dovecot(origin.words), *names) if may_be(is_there, path) else NOTHING
     return then + run_next(Runs.MIGRATE, "--undo", *names, does=Does.UNDO_PREPARED)
 
@@ -200,12 +202,12 @@ def with_dovecot(words: str) -> list[str]:
     return ["--dovecot"] * Reading.of_words(words).bare
 
 
-def mails_of(root: bytes, places: Iterable[bytes], say: Say) -> Iterator[Mail]:
+def mails_of(maildir: bytes, places: Iterable[bytes], say: Say) -> Iterator[Mail]:
     """The files of mail in the folders at these places of a Maildir, each once, though programs may rename them
     meanwhile. The core is that of the message as a mailbox would have it: its last line has ended."""
     for place in places:
         # what was met, by its name and its inode, which may change on a network disk; or by its name and its core
-        folder, met = name_of(root, place), set[tuple[bytes, object]]()
+        folder, met = name_of(maildir, place), set[tuple[bytes, object]]()
         listings = (enumerate(listing, 1) for listing in (listings_of(place) if any(changed_at(place)) else ()))
         for number, (name, path) in itertools.chain.from_iterable(listings):
             say("looking at file %d of %s" % (number, folder_shown(folder)))
@@ -223,11 +225,11 @@ def mails_of(root: bytes, places: Iterable[bytes], say: Say) -> Iterator[Mail]:
             met |= {(before, state.st_ino), (before, core)}
 
 
-def findings_in(root: bytes, with_mailbox: Container[bytes], say: Say) -> Findings:
+def findings_in(maildir: bytes, with_mailbox: Container[bytes], say: Say) -> Findings:
     """Which mail of a Maildir is new, and what became of the rest, by its folders, of which some have a mailbox. Raises
     Fault if nothing shows that."""
     try:
-        places = folders_once(root, with_mailbox)
-        return Findings.by(lines_about(root, places), mails_of(root, places, say))
+        places = folders_once(maildir, with_mailbox)
+        return Findings.by(lines_about(maildir, places), mails_of(maildir, places, say))
     except OSError as error:
-        raise Fault(error.strerror, Reason.ERROR, place=error.filename or root) from error
+        raise Fault(error.strerror, Reason.ERROR, place=error.filename or maildir) from error

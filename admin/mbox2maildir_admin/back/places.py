@@ -57,8 +57,8 @@ class Places:
     """The mailboxes of the folders of a Maildir, among those at some paths."""
 
     def __init__(self, record: Record, names: Names) -> None:
-        self.record, self.names, root = record, names, record.maildir
-        trees = {name: Tree(name, root).read() for name in filter(is_folder, names.paths)}
+        self.record, self.names, maildir = record, names, record.maildir
+        trees = {name: Tree(name, maildir).read() for name in filter(is_folder, names.paths)}
         # in its own, Thunderbird alone knows where it would look for a new mailbox
         self.trees = [name for name, tree in trees.items() if not tree.profiles.found]
         # none is made where folders came from mailboxes: it would be in the way of these, which are elsewhere
@@ -70,7 +70,7 @@ class Places:
         # by the paths of the mailboxes to which mail would go back by a rehearsal: the folders of that mail
         self.would = dict[bytes, bytes]()
         for name in names.paths:
-            for one in trees[name].placed(record, root, set()) if name in trees else [self.planned(name)]:
+            for one in trees[name].placed(record, maildir, set()) if name in trees else [self.planned(name)]:
                 if one.folder:
                     self.found[one.folder].append(one.leads_to or one.path)
 

@@ -32,30 +32,30 @@ MOVED_ASIDE = b".back"
 Remarks = tuple[Remark, ...]
 
 
-def bring_back(root: bytes, names: Sequence[bytes], options: Options, observer: Observer) -> Next:
+def bring_back(maildir: bytes, names: Sequence[bytes], options: Options, observer: Observer) -> Next:
     """Brings the mail back that is in a Maildir of the user who runs this, and did not come from the mailboxes at some
     paths. Returns what moves the Maildir aside."""
     if os.geteuid() == 0:
         # a symbolic link above it may lead elsewhere by then
-        root = real_place(root)
-        want_roots_alone(root)
-    want_migrated(root)
-    return bring_all(Program(find_program()), root, Names(names), options, Keeper(), observer)
+        maildir = real_place(maildir)
+        want_roots_alone(maildir)
+    want_migrated(maildir)
+    return bring_all(Program(find_program()), maildir, Names(names), options, Keeper(), observer)
 
 
-def want_migrated(root: bytes) -> None:
+def want_migrated(maildir: bytes) -> None:
     """Raises Fault if nothing was migrated into a Maildir."""
-    if not is_there(os.path.join(root, RECORD)):
-        raise Fault(NO_RECORD, Reason.NO_MAILDIR, place=root)
+    if not is_there(os.path.join(maildir, RECORD)):
+        raise Fault(NO_RECORD, Reason.NO_MAILDIR, place=maildir)
 
 
 def bring_all(
-    program: Program, root: bytes, names: Names, options: Options, keeper: Keeper, observer: Observer
+    program: Program, maildir: bytes, names: Names, options: Options, keeper: Keeper, observer: Observer
 ) -> Next:
     """Brings mail back by a program, whoever runs this, and whatever was migrated. Returns what moves the Maildir
     aside."""
     os.umask(0o077)
-    with Record.open(root, not options.dry) as record:
+    with Record.open(maildir, not options.dry) as record:
         return Folders(Way(program, record, options, Places(record, names), keeper, observer)).run()
 
 
@@ -69,9 +69,9 @@ class Folders:
     def run(self) -> Next:
         """Brings back the mail of each folder, and tells its row. Returns what moves the Maildir aside, once all of its
         mail is back."""
-        root, observer = self.way.record.maildir, self.way.observer
-        found = findings_in(root, self.places.found, observer.say(root))
-        observer.rest(named(root))
+        maildir, observer = self.way.record.maildir, self.way.observer
+        found = findings_in(maildir, self.places.found, observer.say(maildir))
+        observer.rest(named(maildir))
         if not self.is_dry:
             self.drop_locks()
         folders = list(self.folders(found))
@@ -89,9 +89,9 @@ class Folders:
         if self.is_dry or not self.is_right:
             return NOTHING
         ends = b"", *(b"-%d" % number for number in range(2, 100))
-        names = (root.rstrip(b"/") + MOVED_ASIDE + end for end in ends)
+        names = (maildir.rstrip(b"/") + MOVED_ASIDE + end for end in ends)
         name = next((name for name in names if not may_be(is_there, name)), None)
-        return run_next(Runs.MOVE, operand(root), operand(name)) if name else NOTHING
+        return run_next(Runs.MOVE, operand(maildir), operand(name)) if name else NOTHING
 
     def tell(self, row: Row) -> None:
         """Tells a row."""

@@ -28,9 +28,9 @@ class Lists:
     """The two lists of names, and the mailboxes by their folders."""
 
     def __init__(self, places: Places) -> None:
-        self.root, self.tree, self.places = places.record.maildir, places.trees[0], places
+        self.maildir, self.tree, self.places = places.record.maildir, places.trees[0], places
         self.old, self.has_tabs = names_listed(os.path.join(self.tree, OLD_SUBSCRIPTIONS), b"/")
-        self.new, _ = names_listed(os.path.join(self.root, SUBSCRIPTIONS), b".")
+        self.new, _ = names_listed(os.path.join(self.maildir, SUBSCRIPTIONS), b".")
 
     def names(self) -> list[Name]:
         """What the tree is to be subscribed to: the folders of the list of the Maildir that have a mailbox there, by
@@ -41,7 +41,7 @@ class Lists:
         wanted = {folder_of_new(name): old.get(folder_of_new(name)) or self.name_of(name) for name in self.new}
         left = [name for name in self.old if folder_of_old(name) not in wanted]
         if self.places.record.notes(Note.SUBSCRIBED, INBOX):
-            left = [name for name in left if not is_folder(folder_path(self.root, folder_of_old(name)))]
+            left = [name for name in left if not is_folder(folder_path(self.maildir, folder_of_old(name)))]
         kept = [name for name in self.old if folder_of_old(name) in wanted or name in left]
         beside = [name for folder in dict.fromkeys([INBOX, *wanted]) for name in self.beside(folder)]
         return list(dict.fromkeys([*kept, *filter(None, wanted.values()), *beside]))
@@ -59,7 +59,7 @@ class Lists:
     def beside(self, folder: bytes) -> Iterator[Name]:
         """The names of the mailboxes in the tree that got mail of a folder, and brought none. Without them, who is
         subscribed to the folder would not see that mail."""
-        ledger = Ledger(folder_path(self.root, folder))
+        ledger = Ledger(folder_path(self.maildir, folder))
         there = filter(is_there, map(unspelled, ledger.paths()))
         for path in (*there, *(path for path, its in self.places.would.items() if its == folder)):
             if self.below(path) and not any(name in ledger.begun for name in self.places.record.names_of(path)):

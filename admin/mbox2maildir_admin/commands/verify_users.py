@@ -34,14 +34,14 @@ class Verifier(UserWork):
 
     def run(self, names: list[bytes], relay: Relay) -> None:
         """Compares the mailboxes at these paths with the Maildir."""
-        root, verify = self.root, functools.partial(compare_mailbox, self.spool.program, relay)
-        with Record.open(root, False) as record:
-            pairs = Pairs(record, root, own=names)
+        maildir, verify = self.maildir, functools.partial(compare_mailbox, self.spool.program, relay)
+        with Record.open(maildir, False) as record:
+            pairs = Pairs(record, maildir, own=names)
             for name in names:
                 is_tree = is_folder(name) and (not is_link(name) or record.has_below(name))
-                tree = Tree(name, root, options=self.options).read() if is_tree else None
-                plan = tree.plan(record, root) if tree else list(self.planned(name, pairs, relay))
-                for_planned(root, name, (plan, tree.rows if tree else ()), record, verify, relay)
+                tree = Tree(name, maildir, options=self.options).read() if is_tree else None
+                plan = tree.plan(record, maildir) if tree else list(self.planned(name, pairs, relay))
+                for_planned(maildir, name, (plan, tree.rows if tree else ()), record, verify, relay)
 
     @staticmethod
     def planned(name: bytes, pairs: Pairs, relay: Relay) -> Iterator[Planned]:

@@ -109,7 +109,7 @@ BEGUN_OTHERWISE = (
 def as_before(options: Options, known: Known) -> Optional[tuple[str, list[Remark]]]:
     """The words by which a mailbox was read, and what is to be said of it, if nothing is new in it as it is read so;
     None if something is, or if it cannot be read so any more."""
-    source, disk = known.ledger.sources.get(known.path), options.disk(known.opened.root)
+    source, disk = known.ledger.sources.get(known.path), options.disk(known.opened.maildir)
     if not source or known.is_begun:
         return None
     # mail that is marked as deleted by now, and was not brought, is new
@@ -139,7 +139,7 @@ def contradicts(options: Options, opened: Opened, line: RecordLine) -> bool:
     """Whether a decision gives other messages of a mailbox than those that it had when it was done."""
     if options.decision._replace(alone=True) == UNDECIDED:
         return False
-    by = options.disk(opened.root), options.extra.start_of
+    by = options.disk(opened.maildir), options.extra.start_of
     try:
         with choice_of(opened.mailbox, by[0], decision=options.decision) as choice:
             then, now = Reading.of_words(line.words)._replace(bare=False), choice.plan.reading
@@ -199,7 +199,7 @@ class Before(NamedTuple):
 def want_same_reading(options: Options, known: Known, choice: Choice, contents: Contents) -> None:
     """Raises Left if more of what the ledger has of a mailbox is in it as it was read then, with what to run."""
     before, opened = Before.of(known, contents.reading), known.opened
-    disk = options.disk(opened.root)
+    disk = options.disk(opened.maildir)
     command = options.command(opened, again=options.again, dovecot=before.reading.bare)
     if before.reading.bare != contents.reading.bare and not options.again and has_begun(known):
         says = "its conversion was begun %s --dovecot" % ("with" if before.reading.bare else "without")
@@ -274,7 +274,7 @@ def answer_shown(options: Options, known: Known, question: Question) -> Optional
     had = Before.of(known, options.decision).had()
     if not had or not question.is_on_lines:
         return None
-    with content_of(known.opened.mailbox, options.disk(known.opened.root)) as text:
+    with content_of(known.opened.mailbox, options.disk(known.opened.maildir)) as text:
         by = [options._replace(decision=answer.decision) for answer in question.answers]
         given = [given_by(one, known, text, had, question.doubtful) for one in by]
     most = max((one.brought for one in given), default=0)
@@ -285,7 +285,7 @@ def answer_shown(options: Options, known: Known, question: Question) -> Optional
 def given_by(options: Options, known: Known, text: Mailbox, had: Had, lines: Iterable[LineNumber]) -> Effect:
     """What the answer gives by which this mailbox would be migrated, of what it has brought."""
     choice = Choice(text, plan_of(text, decision=options.decision))
-    with choice.text(options.disk(known.opened.root)) as whole:
+    with choice.text(options.disk(known.opened.maildir)) as whole:
         part = whole.begun_by(options.extra.start_of)
         contents = Contents(part, part.messages(), choice.plan.bared(options.extra.IS_BARE).reading)
         is_shown = are_brought(had, contents.inventory, lines)

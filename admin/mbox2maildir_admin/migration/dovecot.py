@@ -292,10 +292,10 @@ def lines_of(path: bytes) -> tuple[list[bytes], bool]:
     return [line for line in ([] if has_tabs else [first]) + lines if line], has_tabs
 
 
-def subscribe(root: bytes, old: bytes, record: Record, dry: bool) -> list[bytes]:
+def subscribe(maildir: bytes, old: bytes, record: Record, dry: bool) -> list[bytes]:
     """Writes the subscriptions of a tree once, in Dovecot's form: the folders that its `.subscriptions` names, under
     the names that they get. Returns the lines that a file there lacks."""
-    path, (found, has_tabs) = os.path.join(root, SUBSCRIPTIONS), lines_of(os.path.join(old, OLD_SUBSCRIPTIONS))
+    path, (found, has_tabs) = os.path.join(maildir, SUBSCRIPTIONS), lines_of(os.path.join(old, OLD_SUBSCRIPTIONS))
     places = [line.replace(b"\t", b"/") if has_tabs else line for line in found if is_text(line)]
     names = [folder_of_place(place.decode()).encode() for place in places]
     lines = [name.replace(b".", b"\t") for name in names]
@@ -307,7 +307,7 @@ def subscribe(root: bytes, old: bytes, record: Record, dry: bool) -> list[bytes]
         there, has_tabs = lines_of(path)
         return [line for line in (lines if has_tabs else names) if line not in there]
     if not dry:
-        place_file(root, SUBSCRIPTIONS, text, lambda *_: None)
+        place_file(maildir, SUBSCRIPTIONS, text, lambda *_: None)
         # somebody who unsubscribes from a folder later is not told of it again
         record.add(Note.SUBSCRIBED, about, 0, path)
     return []

@@ -26,14 +26,14 @@ class Opened(NamedTuple):
     path."""
 
     mailbox: Mailbox
-    root: bytes
+    maildir: bytes
     name: bytes
     folder: bytes
 
     @classmethod
-    def into(cls, root: bytes, name: bytes, mailbox: Mailbox) -> "Opened":
+    def into(cls, maildir: bytes, name: bytes, mailbox: Mailbox) -> "Opened":
         """A mailbox that goes into the folder of this name in a Maildir."""
-        return cls(mailbox, root, name, folder_path(root, name))
+        return cls(mailbox, maildir, name, folder_path(maildir, name))
 
     @property
     def about(self) -> About:

@@ -533,7 +533,7 @@ class Transfer:
 
     def want_sure(self, contents: Contents, match: Match) -> None:
         """Raises Left if nobody knows what the files of the folder are, or whether it is the same mailbox."""
-        bases = unexplained(self.opened.root, match) if match.count(Stand.NOWHERE) else []
+        bases = unexplained(self.opened.maildir, match) if match.count(Stand.NOWHERE) else []
         if bases:
             left = Left(PARTLY_THERE % len(bases), Reason.PARTLY_THERE)
             if self.options.prepare:

@@ -113,7 +113,7 @@ class Options(NamedTuple):
         # with labels, a mailbox has all of its folders; without a name, one of another run
         is_default = opened.name == INBOX and self.folder is None
         folder = [] if self.is_labelled or is_default else words_of(opened.name)
-        paths = operand(opened.root), operand(path or opened.mailbox.path)
+        paths = operand(opened.maildir), operand(path or opened.mailbox.path)
         return Command.of(Runs.MIGRATE, *options.words(), *folder, *paths)
 
     def put_commands(self, opened: Opened, question: Question) -> None:

@@ -147,7 +147,7 @@ class Pairs(NamedTuple):
     files are known to be a user's own, no other file counts: in a spool anybody may have made it."""
 
     record: History
-    root: bytes
+    maildir: bytes
     options: Options = Options()
     own: Optional[Container[bytes]] = None
 
@@ -163,7 +163,7 @@ class Pairs(NamedTuple):
     def without_folders_in_inbox(self, several: Sequence[Planned], given: Container[bytes]) -> list[Planned]:
         """Mailboxes, of which those are left that are named as a folder and would join other mail in INBOX, if these
         files were given without a folder."""
-        has_mail, line = bool(self.record.last_events(INBOX)) or any(mail_in(self.root)), self.record.prepared(INBOX)
+        has_mail, line = bool(self.record.last_events(INBOX)) or any(mail_in(self.maildir)), self.record.prepared(INBOX)
         for_inbox = [os.path.basename(one.path) for one in several if one.folder == INBOX and not one.why]
         # it may stand elsewhere than when it was prepared
         is_its_own = line and for_inbox == [os.path.basename(unspelled(line.path))]
@@ -176,7 +176,7 @@ class Pairs(NamedTuple):
         name = name_of_folder(one.path)
         if one.why or one.folder != INBOX or not name or self.record.folders_of(one.path):
             return one
-        words, paths = self.options.words(), [operand(self.root), operand(one.path)]
+        words, paths = self.options.words(), [operand(self.maildir), operand(one.path)]
         folders = (option("--folder", its.encode()) for its in (name, "INBOX"))
         folder, inbox = (Command.of(Runs.MIGRATE, *words, *its, *paths) for its in folders)
         then = Answer(folder, Does.OWN_FOLDER), Answer(inbox, Does.JOINS_INBOX)
@@ -209,7 +209,7 @@ class Pairs(NamedTuple):
         then = task(Todo.COPY_AWAY)
         if all(other.startswith(one.path) for other in others):
             folder = words_of(one.folder) if one.folder else ["--folder", "NAME"]
-            words = [*self.options.words(), *folder, operand(self.root), operand(one.path)]
+            words = [*self.options.words(), *folder, operand(self.maildir), operand(one.path)]
             then += run_next(Runs.MIGRATE, *words, does=Does.KEEP_BOTH)
         names = " and ".join(map(named, others)) + (" stands" if len(others) == 1 else " stand")
         return one.left(Left("%s beside it" % names, Reason.COPY, then))

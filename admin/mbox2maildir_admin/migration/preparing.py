@@ -419,15 +419,15 @@ class Leftovers:
 
     def __init__(self, record: Record, names: Sequence[bytes], options: Options) -> None:
         """Takes the names that a run migrates."""
-        self.record, self.root, self.options = record, record.maildir, options
+        self.record, self.maildir, self.options = record, record.maildir, options
         self.trees = [real_path(name) for name in names if is_folder(name)]
         self.listed: list[PreparedBefore] = []
-        for folder in folders_in(self.root):
+        for folder in folders_in(self.maildir):
             origin = origin_in(folder) if has_list(folder) else None
             if origin:
-                self.listed.append(PreparedBefore(name_of(self.root, folder), origin.path, origin.tree))
+                self.listed.append(PreparedBefore(name_of(self.maildir, folder), origin.path, origin.tree))
         # the first pass may have been killed before the record had it
-        record.has_prepared = record.has_prepared or any(map(has_list, folders_in(self.root)))
+        record.has_prepared = record.has_prepared or any(map(has_list, folders_in(self.maildir)))
 
     def rows(self, plan: Iterable[Planned]) -> Iterator[Row]:
         """The rows of these folders. Where the mailbox is gone, everything that was prepared is removed if no more than
@@ -438,7 +438,7 @@ class Leftovers:
         for one in self.listed:
             try:
                 if one.name not in went:
-                    its = Preparation(self.record, one.name, Ledger(folder_path(self.root, one.name)))
+                    its = Preparation(self.record, one.name, Ledger(folder_path(self.maildir, one.name)))
                     left += [one] * its.is_open
                     if its.stage is Stage.OVER and not self.options.dry:
                         remove_list(its.folder)
@@ -468,7 +468,7 @@ class Leftovers:
         """Whether the mailbox of a folder, which is to be at this place, is one of those that went into others, or has
         another one, which people may have renamed: its mail would come a second time."""
         given = (self.record.folders_given(path)[-1:] for path in (place, unspelled(one.path)))
-        others = {name for name, in filter(None, given) if may_be(is_there, folder_path(self.root, name))}
+        others = {name for name, in filter(None, given) if may_be(is_there, folder_path(self.maildir, name))}
         return real_path(place) in map(real_path, went) or not others <= {one.name}
 
     def left(self, one: PreparedBefore, why: str, place: bytes, went_elsewhere: bool = False) -> Row:
@@ -476,7 +476,7 @@ class Leftovers:
         it went into another folder, or, if it is not there, brought back first. What is not wanted any more is
         undone."""
         path, options = unspelled(one.path), self.options.of_next()
-        folder = [*([] if one.name == INBOX else words_of(one.name)), operand(self.root)]
+        folder = [*([] if one.name == INBOX else words_of(one.name)), operand(self.maildir)]
         then = task(Todo.BRING_BACK, text_of(place))
         if went_elsewhere:
             then = NOTHING
@@ -491,13 +491,13 @@ class Leftovers:
         were made for these, or were removed."""
         if self.options.dry:
             return
-        for name in names_in(self.root):
+        for name in names_in(self.maildir):
             with contextlib.suppress(OSError):
                 if name.startswith(ASIDE):
                     # a killed pass was making or removing it
-                    remove_aside(os.path.join(self.root, name))
-        for folder in folders_in(self.root):
-            name = name_of(self.root, folder)
+                    remove_aside(os.path.join(self.maildir, name))
+        for folder in folders_in(self.maildir):
+            name = name_of(self.maildir, folder)
             with contextlib.suppress(Fault, OSError):
                 # what cannot be read stays
                 if name not in went and has_list(folder) and not origin_in(folder):

@@ -37,38 +37,40 @@ if TYPE_CHECKING:
 Tell = Callable[[Row], object]
 
 
-def migrate_own(root: bytes, names: Sequence[bytes], options: Options, observer: Observer) -> None:
+def migrate_own(maildir: bytes, names: Sequence[bytes], options: Options, observer: Observer) -> None:
     """Migrates into a Maildir of the user who runs this."""
-    root, names = real_place(root), seen(names, observer)
-    refuse(root, names, options)
+    maildir, names = real_place(maildir), seen(names, observer)
+    refuse(maildir, names, options)
     if options.prepare:
-        want_unread(root, os.fsencode(os.path.expanduser("~")), locations(), options.unread)
+        want_unread(maildir, os.fsencode(os.path.expanduser("~")), locations(), options.unread)
     os.umask(0o077)
-    run_all(options, root, names, observer, Program(find_program()))
+    run_all(options, maildir, names, observer, Program(find_program()))
 
 
-def refuse(root: bytes, names: Sequence[bytes], options: Options = Options()) -> None:
+def refuse(maildir: bytes, names: Sequence[bytes], options: Options = Options()) -> None:
     """Raises Fault for what is refused before anything is made. `options` go into the command that is to be run
     instead."""
     try:
-        want_maildir(root)
+        want_maildir(maildir)
     except NotADirectoryError:
-        if not is_there(root):
+        if not is_there(maildir):
             raise
         # a name that is no file may be the Maildir
-        first = next((name for name in names if not is_file(name)), root)
-        raise not_in_order("%s: it is a file, not a Maildir" % named(root), first, [root, *names], options) from None
+        first = next((name for name in names if not is_file(name)), maildir)
+        raise not_in_order(
+            "%s: it is a file, not a Maildir" % named(maildir), first, [maildir, *names], options
+        ) from None
     for name in names:
         # one that can't be looked at is left once it is read
         if is_surely(is_maildir, name):
-            raise not_in_order("%s: it is a Maildir, not a mailbox" % named(name), name, [root, *names], options)
+            raise not_in_order("%s: it is a Maildir, not a mailbox" % named(name), name, [maildir, *names], options)
     if os.geteuid() == 0:
-        words = [*options.words(), *(operand(os.path.abspath(name)) for name in [root, *names])]
+        words = [*options.words(), *(operand(os.path.abspath(name)) for name in [maildir, *names])]
         # the owner of the folder that the Maildir is in could put another one in its place
-        for path in (root, os.path.dirname(os.path.abspath(root)), *names):
+        for path in (maildir, os.path.dirname(os.path.abspath(maildir)), *names):
             if type_at(path):
                 want_roots(path, words)
-        want_roots_alone(root)
+        want_roots_alone(maildir)
 
 
 def not_in_order(why: str, first: bytes, names: Sequence[bytes], options: Options) -> Fault:
@@ -85,7 +87,7 @@ def not_in_order(why: str, first: bytes, names: Sequence[bytes], options: Option
 
 def run_all(
     options: Options,
-    root: bytes,
+    maildir: bytes,
     names: Sequence[bytes],
     observer: Observer,
     program: Program,
@@ -93,7 +95,7 @@ def run_all(
 ) -> None:
     """Migrates each mailbox into its folder. In a home only what is its user's own is touched, over no symbolic
     link."""
-    with Record.to_migrate(root, options.dry) as record:
+    with Record.to_migrate(maildir, options.dry) as record:
         extra = Dovecot(record) if options.dovecot else Extra()
         options = options._replace(extra=extra, names=names, home=home.path if home else b"")
         several = Several(Migration(program, record, options), observer, home)
@@ -231,17 +233,17 @@ class Several:
             key = None if self.is_tree(name) or self.is_of_home and is_link(name) else identity(name)
             if key:
                 self.met.setdefault(key, {}).setdefault(os.path.abspath(name), name)
-        record, root, options, _ = self.pairs
+        record, maildir, options, _ = self.pairs
         # before a file has its folder, all of its names are known
         is_alone = len(names) == 1 and not self.is_of_home
         trees = filter(self.is_tree, names.values())
-        self.trees = {name: Tree(name, root, self.met, options, is_alone).read() for name in trees}
+        self.trees = {name: Tree(name, maildir, self.met, options, is_alone).read() for name in trees}
         self.others = other_names(self.met)
         for name in names.values():
             if name in self.trees:
                 tree = self.trees[name]
-                placed = tree.placed(record, root, self.taken, self.is_no_mail)
-                maildirs = [maildir.row(root, self.taken) for maildir in tree.maildirs]
+                placed = tree.placed(record, maildir, self.taken, self.is_no_mail)
+                maildirs = [one.row(maildir, self.taken) for one in tree.maildirs]
                 for row in [*tree.rows, *maildirs]:
                     self.tell_once_synced(Outcome(row))
                 yield from placed
@@ -303,12 +305,12 @@ class Several:
     def subscribe(self) -> None:
         """Writes the subscriptions of trees. Those that can't be written are left, and so is a file that is there and
         lacks some of their lines."""
-        migration, root = self.migration, self.pairs.root
-        dry, file = migration.options.dry or not migration.record.is_open, os.path.join(root, SUBSCRIPTIONS)
+        migration, maildir = self.migration, self.pairs.maildir
+        dry, file = migration.options.dry or not migration.record.is_open, os.path.join(maildir, SUBSCRIPTIONS)
         for path in [one for one in self.subscriptions if one in self.found]:
             row = self.found[path]
             try:
-                lines = subscribe(root, self.subscriptions[path], migration.record, dry)
+                lines = subscribe(maildir, self.subscriptions[path], migration.record, dry)
             except (Fault, OSError) as fault:
                 row = row_left(path, b"", fault)._replace(reason=Reason.SUBSCRIPTIONS)
             else:

@@ -238,12 +238,12 @@ class Tree:
         return Planned(path, folder, name_before(place.name.decode()), is_inbox=place.is_inbox)
 
     def plan(
-        self, record: History, root: bytes, has_no_mail: Callable[[Planned], bool] = lambda one: False
+        self, record: History, maildir: bytes, has_no_mail: Callable[[Planned], bool] = lambda one: False
     ) -> list[Planned]:
         """The mailboxes with their folders. Adds rows for mailboxes without one, and for everything else."""
-        plan = self.placed(record, root, set(), has_no_mail)
-        for maildir in self.maildirs:
-            self.leave(maildir.path, Left(MAILDIR, Reason.MAILDIR))
+        plan = self.placed(record, maildir, set(), has_no_mail)
+        for met in self.maildirs:
+            self.leave(met.path, Left(MAILDIR, Reason.MAILDIR))
         for one in plan:
             if one.why:
                 self.leave(one.path, one.why)
@@ -252,13 +252,13 @@ class Tree:
     def placed(
         self,
         record: History,
-        root: bytes,
+        maildir: bytes,
         taken: set[bytes],
         has_no_mail: Callable[[Planned], bool] = lambda one: False,
     ) -> list[Planned]:
         """The mailboxes with their folders in a Maildir, which are taken then. What the record has stays where it is,
         whatever else would go there; symbolic links are left unless they were migrated or prepared by themselves."""
-        pairs = Pairs(record, root, self.options)
+        pairs = Pairs(record, maildir, self.options)
         found = [pairs.judged(recorded(one, record)) for one in self.mailboxes()]
         links = []
         for path in self.links:

@@ -50,13 +50,13 @@ ONE_PLACE = "its folder is that of %s too: a link leads there, or this disk has 
 ONLY_PREPARED = "mail is only prepared in %s, and --labels is for a Maildir without such mail"
 
 
-def migrate_takeouts(root: bytes, names: Sequence[bytes], options: Options, observer: Observer) -> None:
+def migrate_takeouts(maildir: bytes, names: Sequence[bytes], options: Options, observer: Observer) -> None:
     """Migrates Takeouts into a Maildir of the user who runs this, by their labels. What was said about the labels of
     one before need not be said again."""
-    root, names = real_place(root), seen(names, observer)
-    refuse(root, names, options)
+    maildir, names = real_place(maildir), seen(names, observer)
+    refuse(maildir, names, options)
     os.umask(0o077)
-    with Record.to_migrate(root, options.dry) as record:
+    with Record.to_migrate(maildir, options.dry) as record:
         options = options._replace(names=names, is_labelled=True)
         takeouts = Takeouts(record, options, observer)
         observer.total += len(names)

@@ -23,11 +23,11 @@ from ..undoing.undo import Undo
 from ..units import Say
 
 
-def undo_takeout(root: bytes, path: bytes, options: Options, observer: Observer) -> None:
+def undo_takeout(maildir: bytes, path: bytes, options: Options, observer: Observer) -> None:
     """Undoes a Takeout in a Maildir of the user who runs this."""
-    root = real_place(root)
-    refuse(root, [path], Options(options.dry, now=options.now, undo=True))
-    with Record.open(root, not options.dry) as record:
+    maildir = real_place(maildir)
+    refuse(maildir, [path], Options(options.dry, now=options.now, undo=True))
+    with Record.open(maildir, not options.dry) as record:
         for row in TakeoutUndo(record, options).rows(path, observer.say(path)):
             observer.total += 1
             observer.begin()

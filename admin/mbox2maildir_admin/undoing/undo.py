@@ -137,7 +137,7 @@ class Undo:
             raise Left(OLDER % named(unspelled(newer.path)), Reason.UNDO)
         plan = becomes_of(ledger, path, self.cores_now(opened, ledger, path))
         # without lines of its files, the ledger is older than its folder: another mailbox may have what would go
-        names = without_line(opened.root, opened.folder) if Fate.REMOVED in {one.fate for one in plan} else ()
+        names = without_line(opened.maildir, opened.folder) if Fate.REMOVED in {one.fate for one in plan} else ()
         if names:
             raise Left(WITHOUT_LINE % counted(len(names), "message"), Reason.LEDGER)
         messages = count_in(ledger, path)

@@ -46,7 +46,7 @@ class Returner(UserWork):
 
     def has_more(self) -> bool:
         """Whether there is a Maildir, even if no mailbox is there: its mail is left then."""
-        return may_be(is_there, self.root)
+        return may_be(is_there, self.maildir)
 
     def names(self, relay: Relay) -> Iterator[bytes]:
         """The paths that mail may go back to."""
@@ -55,17 +55,17 @@ class Returner(UserWork):
 
     def run(self, names: list[bytes], relay: Relay) -> None:
         """Brings the mail of the Maildir back into the mailboxes at these paths."""
-        root = self.root
-        if not is_there(root) and all(map(has_no_mailbox, names)):
+        maildir = self.maildir
+        if not is_there(maildir) and all(map(has_no_mailbox, names)):
             return
         has_none = not self.mailbox and names == [self.user.place]
         # what is there came from no old mailbox if its user has none, unless a file has a name that only this program
         # gives
-        if not has_none or any(BASE.match(name) for folder in folders_in(root) for name, _ in mail_in(folder)):
-            want_migrated(root)
-        paths = [one for one in names if one not in self.user.others or is_recorded(root, one)]
+        if not has_none or any(BASE.match(name) for folder in folders_in(maildir) for name, _ in mail_in(folder)):
+            want_migrated(maildir)
+        paths = [one for one in names if one not in self.user.others or is_recorded(maildir, one)]
         names_back, keeper = Names(paths, self.tree, NO_INBOX), Asking(relay, self.mailboxes)
-        relay.tell("then", bring_all(self.program(relay), root, names_back, self.options, keeper, relay))
+        relay.tell("then", bring_all(self.program(relay), maildir, names_back, self.options, keeper, relay))
 
 
 def has_no_mailbox(path: bytes) -> bool:

@@ -68,7 +68,7 @@ class UserWork:
         self.user, self.spool, self.options = user, spool, spool.options
         self.account, self.mailbox = user.account, None if user.size is None else user.place
         # the Maildir, and the folder of mailboxes, if one is asked for
-        self.root = self.path_of(spool.maildir)
+        self.maildir = self.path_of(spool.maildir)
         self.tree = self.path_of(spool.tree) if spool.tree and not user.why_not else None
 
     def path_of(self, name: bytes) -> bytes:
@@ -87,7 +87,7 @@ class UserWork:
 
     def work(self, relay: "Relay") -> None:
         """Does the work of a child: the same as the command if its user runs it."""
-        relay.user, relay.root, left = self.user, self.root, why_no_home(self.account)
+        relay.user, relay.maildir, left = self.user, self.maildir, why_no_home(self.account)
         if left:
             # the home belongs to what is left of the spool; otherwise it is the user that has one row
             of_home = self.tree if self.user.is_left and self.tree else self.account.home
@@ -128,28 +128,30 @@ class UserWork:
         if not names and not self.has_more():
             return
         try:
-            want_own(self.root)
-            refuse(self.root, names)
+            want_own(self.maildir)
+            refuse(self.maildir, names)
             if self.options.prepare:
-                want_unread(self.root, self.account.home, self.spool.locations, self.options.unread)
-            if self.user.why_not and not is_recorded(self.root, names[0]):
+                want_unread(self.maildir, self.account.home, self.spool.locations, self.options.unread)
+            if self.user.why_not and not is_recorded(self.maildir, names[0]):
                 relay.leave_rest(names, self.user.why_not)
                 return
             self.run(names, relay)
         except (Fault, OSError) as fault:
-            relay.leave_rest(names or [self.root], fault)
+            relay.leave_rest(names or [self.maildir], fault)
         except Exception as fault:  # pylint: disable=broad-except
-            relay.leave_rest(names or [self.root], Fault("internal error: %r" % fault, Reason.DEFECT))
+            relay.leave_rest(names or [self.maildir], Fault("internal error: %r" % fault, Reason.DEFECT))
 
     def has_more(self) -> bool:
         """Whether folders of the Maildir are only prepared, which is said even if no mailbox is there any more."""
-        return not self.options.prepare and may_be(lambda root: any(map(has_list, folders_in(root))), self.root)
+        return not self.options.prepare and may_be(
+            lambda maildir: any(map(has_list, folders_in(maildir))), self.maildir
+        )
 
     def run(self, names: list[bytes], relay: "Relay") -> None:
         """Migrates the mailboxes at these paths into the Maildir."""
         has_inbox = bool(self.mailbox) or self.user.is_left
         home = UserHome(self.account.home, has_inbox, functools.partial(sync_by_root, relay))
-        run_all(self.options, self.root, names, relay, self.program(relay), home)
+        run_all(self.options, self.maildir, names, relay, self.program(relay), home)
 
     def program(self, relay: "Relay") -> Program:
         """What runs mbox2maildir, as long as root is there."""
@@ -202,7 +204,7 @@ class Relay(Parent, Observer):
     the home, otherwise a name below the home."""
 
     user: SpoolUser
-    root: bytes
+    maildir: bytes
 
     def __init__(self, pipe: int, alive: int) -> None:
         super().__init__(pipe, alive)
@@ -226,8 +228,8 @@ class Relay(Parent, Observer):
         """Why a row is left if its user's home went away meanwhile, or the Maildir in it, which a row could take for a
         ledger that is lost. None if neither is so."""
         left = why_no_home(self.user.account)
-        if not left and row.reason in (Reason.LEDGER, Reason.RECORD) and not may_be(is_there, self.root):
-            left = Left("the Maildir of its user is missing: %s" % named(self.root), Reason.HOME)
+        if not left and row.reason in (Reason.LEDGER, Reason.RECORD) and not may_be(is_there, self.maildir):
+            left = Left("the Maildir of its user is missing: %s" % named(self.maildir), Reason.HOME)
         return left
 
     def leave_rest(self, names: list[bytes], fault: Union[Fault, OSError]) -> None:

@@ -297,10 +297,10 @@ class Users:
 
     def why_not(self, account: Account, other: bytes, mailbox: bytes) -> Left:
         """Why the mailbox of a further name of an account is left, and the command that migrates it, or checks it."""
-        root, command = os.path.join(account.home, self.spool.maildir), self.spool.work.command
-        words = [*self.spool.words(), "--folder", "NAME", operand(root)]
+        maildir, command = os.path.join(account.home, self.spool.maildir), self.spool.work.command
+        words = [*self.spool.words(), "--folder", "NAME", operand(maildir)]
         if command is Runs.VERIFY:
-            words = [operand(folder_path(root, on_disk("NAME")))]
+            words = [operand(folder_path(maildir, on_disk("NAME")))]
         says = "%s is the same user, and its mailbox goes into INBOX" % named(other)
         return Left(says, Reason.SAME_USER, run_next(command, *words, operand(mailbox)))
 
