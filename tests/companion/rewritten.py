@@ -74,6 +74,11 @@ STORIES: dict[str, list[Step]] = {
         *(("verify M a", "a: whole: in another form 1; without fields 1"), "!rm $(grep -l 'Subject: two' M/new/*)"),
         ("verify M a", "a: not whole: in another form 1; nowhere 1"),
     ],
+    # what was deleted is there again if another mailbox has it in another form, and that is said
+    "deleted_and_brought_in_another_form": [
+        *(("a", A + b"\nhello\n>From the shed.\n\n"), "migrate M a", "!rm M/new/*", ("b", OF_MUTT)),
+        *(("migrate M b", f"b: done: ...{BACK('1 message')}"), "= one two"),
+    ],
     "what_looks_like_a_field_in_a_body": [
         *(("a", FIELD), "migrate --as mboxcl2 M a", ("a", FIELD.replace(b"RO", b"O ")), "migrate --as mboxcl2 M a"),
         "= one one",

@@ -141,6 +141,8 @@ class Match:
         self.strangers: collections.defaultdict[bytes, list[bytes]] = collections.defaultdict(list)
         # what a row says of new messages, with the path of the mailbox whose file it says that of, and of how many
         self.seen: collections.Counter[tuple[Sentence, str]] = collections.Counter()
+        # how many new messages other mailboxes brought, in other forms that are gone
+        self.gone_in_other_form = 0
 
     @classmethod
     def of(cls, ledger: Ledger, path: str, files: Files, is_deleted: IsDeleted) -> "Match":
@@ -332,13 +334,16 @@ class Match:
 
     def count_nowhere(self, rest: list[int], marked: set[File]) -> None:
         """Counts what is said of messages at these places, which have the same core, and are nowhere: for how many a
-        file is there that is marked as deleted, and how many another mailbox brought in another form alone."""
+        file is there that is marked as deleted, and how many another mailbox brought in another form alone, which is
+        there or gone."""
         self.seen[Says.MARKED, self.path] += min(len(marked), len(rest))
         lines = self.lines.get(self.inventory.core(rest[0]), ()) if rest else ()
-        theirs = (one for one in lines if one.path != self.path and one.state is State.HELD)
-        there = {one.message.bare for one in theirs if one.message.name in self.present}
-        in_other_form = sum(bool(there) and self.inventory.bare(place) not in there for place in rest)
-        self.seen[Says.OTHER_FORM, self.path] += in_other_form
+        theirs = [one.message for one in lines if one.path != self.path and one.state is State.HELD]
+        there = {one.bare for one in theirs if one.name in self.present}
+        forms = there or {one.bare for one in theirs}
+        in_other_form = sum(bool(forms) and self.inventory.bare(place) not in forms for place in rest)
+        self.seen[Says.OTHER_FORM, self.path] += in_other_form if there else 0
+        self.gone_in_other_form += 0 if there else in_other_form
 
     def note(self, offer: Offer, place: int) -> None:
         """Notes that a file stands for a message, as what it is offered for means."""

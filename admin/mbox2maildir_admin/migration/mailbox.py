@@ -548,7 +548,7 @@ class Transfer:
         """How many messages that are nowhere may have been there before, and were deleted."""
         # the ledger may lack what was deleted of other mailboxes that the index counts
         others = sum(one.messages for one in self.known.unknown if one.path not in self.known.names)
-        back, ledger = min(others, match.count(Stand.NOWHERE)), self.ledger
+        back, ledger = min(others, match.count(Stand.NOWHERE)) + match.gone_in_other_form, self.ledger
         gone = gone_before(ledger)
         if gone:
             back += sum((gone & collections.Counter(map(match.inventory.core, match.nowhere))).values())
