@@ -426,7 +426,33 @@ def standing(home: Home) -> None:
     )
 
 
-RULES = meanwhile, left, left_elsewhere, locks, nothing_shows_what_is_new, where_it_goes, a_power_cut, standing
+def deleted_folders(home: Home) -> None:
+    """People deleted a folder, and made one anew. The rows of their mailboxes say what these still have; one whose
+    folder has only lost its ledger says nothing, nor does one that was not migrated."""
+    home.begin("--jobs", "1")
+    for name, numbers in (("a", (1, 2)), ("b", (3, 4, 5)), ("c", (6,)), ("d", (7,))):
+        home.write(f"mail/{name}", letters(*numbers))
+    home.done("mail")
+    home.write("mail/e", letters(8))
+    shutil.rmtree(home.folder("a"))
+    shutil.rmtree(home.folder("b"))
+    make_maildir(home.folder("b"))
+    home.place.own(home.folder("b"), *home.folder("b").iterdir())
+    home.place_file("17000.M1.host:2,", NEW, "b")
+    home.ledger("c").unlink()
+    for words in [*BACK, "--dry-run"], BACK:
+        ran = home.place.run([*words, "mail"])
+        says = {row["path"]: [one["says"] for one in row["remarks"]] for row in ran.rows}
+        deleted = [f"{count} messages that were deleted in the Maildir are still there" for count in (2, 3)]
+        wanted = {"mail/a": deleted[:1], "mail/b": deleted[1:], "mail/c": ["1 message there already"], "mail/d": []}
+        equal(f"{words}: what is said", says, wanted)
+        equal(f"{words}: the sums", ran.sums["still_there"], {"deleted": 5, "changed": 0})
+
+
+RULES = (
+    *(meanwhile, left, left_elsewhere, locks, nothing_shows_what_is_new, where_it_goes, a_power_cut),
+    *(standing, deleted_folders),
+)
 
 
 if __name__ == "__main__":

@@ -104,13 +104,14 @@ FORMS: Sequence[Callable[[bytes, bytes, bytes], bytes]] = (
 
 
 class Findings(NamedTuple):
-    """By folders: what is new, in its order; the folders of messages that were moved there; the messages that were
-    changed, and those that were deleted; and what went back before, and is in its folder."""
+    """By folders: what is new, in its order; the folders of messages that were moved there; of each message that was
+    changed, and of each that was deleted, the paths of the mailboxes that have it; and what went back before, and is in
+    its folder."""
 
     new: dict[bytes, list[Mail]]
     moved: dict[bytes, list[bytes]]
-    changed: dict[bytes, list[Slot]]
-    deleted: dict[bytes, list[Slot]]
+    changed: dict[bytes, list[set[str]]]
+    deleted: dict[bytes, list[set[str]]]
     returned: dict[bytes, list[Mail]]
 
     @classmethod
@@ -136,8 +137,8 @@ class Findings(NamedTuple):
         return cls(
             by_folder((mail.folder, mail) for mail in in_order(left.values())),
             by_folder((mail.folder, slot.folder) for mail, slot in found if mail.folder != slot.folder),
-            by_folder((slot.folder, slot) for mail, slot in found if mail.core != slot.core),
-            by_folder((slot.folder, slot) for slot in slots if slot.file.is_held and slot.file.name is None),
+            by_folder((slot.folder, slot.paths) for mail, slot in found if mail.core != slot.core),
+            by_folder((slot.folder, slot.paths) for slot in slots if slot.file.is_held and slot.file.name is None),
             by_folder((mail.folder, mail) for mail, slot in at_home if slot.went_back(State.HELD)),
         )
 

@@ -10,6 +10,7 @@ from ..ledger.record import Record, is_gone, unspelled
 from ..looks import is_file, is_there, may_be
 from ..maildir.folders import folder_path, folder_shown, folders_in, name_of
 from ..maildir.making import GOES_BACK, RECORD, real_place, want_roots_alone
+from ..mbox.bases import BASE
 from ..mbox.files import is_empty
 from ..migration.outcomes import Observer, Row, Verdict, row_left
 from ..migration.options import Options
@@ -19,7 +20,7 @@ from ..remarks import Remark, Says, Sentence
 from ..terminal import first_of, named, operand
 from .appending import Returned, TakesNothing, Way, not_held, nothing_new
 from .journal import FULL, Journal
-from .mails import Findings, Slot, Target, findings_in
+from .mails import Findings, Target, findings_in
 from .places import Keeper, Names, Places
 from .subscriptions import rows_of
 
@@ -72,6 +73,7 @@ class Folders:
         maildir, observer = self.way.record.maildir, self.way.observer
         found = findings_in(maildir, self.places.found, observer.say(maildir))
         observer.rest(named(maildir))
+        self.add_deleted_folders(found)
         if not self.is_dry:
             self.drop_locks()
         folders = list(self.folders(found))
@@ -106,15 +108,25 @@ class Folders:
         paths = noted.union(*self.places.found.values())
         self.way.keeper.drop_locks(sorted(paths), os.path.realpath(self.way.record.maildir))
 
+    def add_deleted_folders(self, found: Findings) -> None:
+        """Takes it that all messages were deleted of a folder that is gone, or was made anew, by the index. What is
+        there by names of this program has only lost its ledger."""
+        for folder in self.places.found:
+            ledger, new = Ledger(folder_path(self.way.record.maildir, folder)), found.new.get(folder, ())
+            for line in self.way.record.unknown_to(folder, ledger):
+                if line.ledger != ledger.number and not any(BASE.fullmatch(mail.before) for mail in new):
+                    found.deleted.setdefault(folder, []).extend([{line.path}] * line.messages)
+
     def folders(self, found: Findings) -> Iterator[bytes]:
         """The folders with mail that goes back, or with a mailbox, and those about which something is to be said."""
         wanted = {*found.new, *found.moved, *found.changed, *found.deleted, *self.places.found}
         # what went back may be on a disk that is not mounted now, or was not then
         wanted.update(filter(self.places.are_gone, found.returned))
-        for path in folders_in(self.way.record.maildir):
-            folder = name_of(self.way.record.maildir, path)
+        there = {name_of(self.way.record.maildir, path): path for path in folders_in(self.way.record.maildir)}
+        for folder, path in there.items():
             if folder in wanted or is_there(os.path.join(path, GOES_BACK)):
                 yield folder
+        yield from (folder for folder in found.deleted if folder not in there)
 
     def target(self, found: Findings, folder: bytes) -> Target:
         """The mail of a folder that goes back, wherever it goes to, and what is said of messages that people moved
@@ -133,12 +145,12 @@ class Folders:
             return {}
         names = {path: set(self.way.record.names_of(path)) for path in paths}
         # in one that had another size when it was read last, nobody knows what it has now
-        sizes = {source.key[0] for source in Ledger(folder_path(self.way.record.maildir, folder)).sources.values()}
+        sizes = {line.about.size for line in self.way.record.last_events(folder)}
         remarks: collections.defaultdict[bytes, Remarks] = collections.defaultdict(tuple)
-        for says, slots in ((Says.DELETED, found.deleted), (Says.CHANGED, found.changed)):
+        for says, several in ((Says.DELETED, found.deleted), (Says.CHANGED, found.changed)):
             counts: collections.Counter[bytes] = collections.Counter()
-            for slot in slots.get(folder, ()):
-                counts.update(holders_of(slot, names))
+            for its in several.get(folder, ()):
+                counts.update(holders_of(its, names))
             for path, count in counts.items():
                 is_sure = not may_be(lambda one: (os.path.getsize(one) if is_file(one) else 0) not in sizes, path)
                 unless = "" if is_sure else UNLESS % ("it" if count == 1 else "them")
@@ -237,11 +249,11 @@ def left(target: Target, fault: Union[Fault, OSError]) -> Row:
     return row._replace(messages=len(target.mails), remarks=target.remarks, is_back=True)
 
 
-def holders_of(slot: Slot, names: Mapping[bytes, set[str]]) -> Iterator[bytes]:
-    """The mailboxes, by their paths with all names of these, that have a message. A mailbox that is gone from its path
-    may be the first of them; of one that is not named now, nothing is said."""
-    several = [path for path, its in names.items() if its & slot.paths]
+def holders_of(paths: set[str], names: Mapping[bytes, set[str]]) -> Iterator[bytes]:
+    """The mailboxes, by their paths with all names of these, that have a message which those at some paths had. One
+    that is gone from its path may be the first of them; of one that is not named now, nothing is said."""
+    several = [path for path, its in names.items() if its & paths]
     if several:
         yield from several
-    elif all(map(is_gone, slot.paths)):
+    elif all(map(is_gone, paths)):
         yield from list(names)[:1]
