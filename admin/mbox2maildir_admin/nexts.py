@@ -106,7 +106,7 @@ class Does:
     ONE = Phrase("labels-one", "each message goes into one folder")
     INTO_INBOX = Phrase("into-inbox", "if this is to be INBOX, run this next")
     # commands that store what is nowhere, and what comes of that
-    STORES = Phrase("stores-rest", "this stores the messages that are nowhere")
+    STORES = Phrase("stores-rest", "this stores the messages that are nowhere, deleted ones too")
     BRINGS_BACK = Phrase(
         "stores-rest-brings-back", "this stores the messages that are nowhere, and brings back deleted mail"
     )

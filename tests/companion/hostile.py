@@ -194,7 +194,7 @@ PRINTED = [
         [
             LINE,
             *(RUN, f"{COMMAND}rm 'a b'"),
-            *("    this stores the messages that are nowhere: 3 messages:", f"{COMMAND}rm x"),
+            *("    this stores the messages that are nowhere, deleted ones too: 3 messages:", f"{COMMAND}rm x"),
             *(RUN, f"{COMMAND}sh -c 'rm a && rm '\"'\"'b c'\"'\"''"),
             f"    it was written as {ESCAPED}:",
             f"{COMMAND}mbox2maildir-admin migrate --as $'{ESCAPED}' '; rm x'",
