@@ -24,7 +24,7 @@ from tests.support.schema import wrong
 
 USERS = ["m91one", "m91two"]
 ESTIMATE = "a last pass would now take some ..."
-ONLY_PREPARED = "nothing of it counts as done before migrate runs without --prepare"
+ONLY_PREPARED = "what is prepared is done once migrate runs without --prepare"
 MBOX = "mail_location = mbox:~/mail:INBOX=/var/mail/%u"
 NEW_MBOX = "mail_driver = mbox\nmail_path = %{home}/mail\nmail_inbox_path = /var/mail/%{user}"
 

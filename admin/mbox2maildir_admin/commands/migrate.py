@@ -19,7 +19,7 @@ ONCE = ("--as", "--of", "--text", "--begin", "--drop-deleted", "--report")
 # what is said of ties that no question has
 UNMET = "--of %s: no question has this tie: it was answered before, or what is asked has changed"
 # what the last line says of what is only prepared
-ONLY_PREPARED = "nothing of it counts as done before migrate runs without --prepare"
+ONLY_PREPARED = "what is prepared is done once migrate runs without --prepare"
 UNQUOTED = "its path was given as %d words, so nothing was migrated"
 # of how many words a path may be that was not quoted
 MOST_WORDS = 8
