@@ -309,17 +309,19 @@ def uids_of_two_servers(home: Home) -> None:
 
 
 def a_uid_of_two_servers_once_migrated(home: Home) -> None:
-    """The same if that came to the Maildir too, under another UID, before the way back."""
-    home.begin("--jobs", "1", *DOVECOT)
-    home.write("mail/a", KEPT)
-    home.done("mail")
-    home.place_file("1.a:2,", NEW[:-1] % b"", "a")
-    home.write("mail/a", KEPT.replace(b"0000000003", b"0000000004") + FROM + TAIL % b"X-UID: 4\n")
-    home.done("mail")
-    tail = next(path.name for path in home.files("a") if b"tail" in path.read_bytes())
-    home.place_file("../dovecot-uidlist", listed(6, b"4 :1.a\n5 :%s\n" % tail.partition(":")[0].encode()), "a")
-    row = home.place.run(["back", "--json", "--now", *DOVECOT, "M", "mail"]).rows[0]
-    equal("the remarks", words_of(row), ANEW)
+    """The same if that came to the Maildir too, under another UID, before the way back. If the Maildir had given no UID
+    before, all UIDs stay."""
+    for files, says in ((b"4 :1.a\n", ANEW), (b"", RAISE)):
+        home.begin("--jobs", "1", *DOVECOT)
+        home.write("mail/a", KEPT)
+        home.done("mail")
+        home.place_file("1.a:2,", NEW[:-1] % b"", "a")
+        home.write("mail/a", KEPT.replace(b"0000000003", b"0000000004") + FROM + TAIL % b"X-UID: 4\n")
+        home.done("mail")
+        tail = next(path.name for path in home.files("a") if b"tail" in path.read_bytes())
+        home.place_file("../dovecot-uidlist", listed(6, files + b"5 :%s\n" % tail.partition(":")[0].encode()), "a")
+        row = home.place.run(["back", "--json", "--now", *DOVECOT, "M", "mail"]).rows[0]
+        equal(f"{says}: the remarks", words_of(row), says)
 
 
 def keywords_until_they_are_there(home: Home) -> None:

@@ -205,17 +205,15 @@ class Numbering:
         return self.is_same
 
     def compare(self, ledger: Ledger, target: Target, are_known: Sequence[int]) -> None:
-        """Has the Maildir go on no longer if a message of the text that was looked at has a UID that the Maildir may
-        have given to another one: it has a different one there, or did not come from the mailbox."""
+        """Has the Maildir go on no longer if a message of the text that was looked at has a UID that the Maildir has
+        given to another one, or may have: the message did not come from the mailbox."""
         assert self.listed, "the Maildir goes on"
         names = [(line.message.name, line.message.core) for line in ledger.message_lines(None)]
         names += [(mail.before, mail.core) for mail in (*target.returned, *target.mails)]
-        uids: collections.defaultdict[bytes, set[int]] = collections.defaultdict(set)
-        for name, core in names:
-            uids[core] |= {self.listed.uids[name]} if name in self.listed.uids else set()
+        same, given = {(core, self.listed.uids.get(name)) for name, core in names}, {*self.listed.uids.values()}
         for place, uid in enumerate(self.uids):
-            its = uids[self.inventory.core(place)]
-            if 0 < uid < self.listed.following and (uid not in its if its else not are_known[place]):
+            is_other = (self.inventory.core(place), uid) not in same and (uid in given or not are_known[place])
+            if 0 < uid < self.listed.following and is_other:
                 self.is_numbered = False
 
     def say(self, mailbox: Mailbox, target: Target, is_dry: bool) -> None:
