@@ -71,7 +71,9 @@ STORIES: dict[str, list[Step]] = {
     "it_has_another_form": [
         *(("a", A + b"\nhello\n>From the shed.\n\n" + TWO), "migrate M a", "= one two"),
         *(("a", OF_MUTT), ("migrate M a", "a: done before")),
-        *(("verify M a", "a: whole: in another form 1; without fields 1"), "!rm $(grep -l 'Subject: two' M/new/*)"),
+        ("verify M a", "a: whole: in another form 1; without fields 1"),
+        "!touch M/new/*; mbox2maildir-admin dates M a && test -z \"$(find M/new -type f -newermt 2025-03-04)\"",
+        "!rm $(grep -l 'Subject: two' M/new/*)",
         ("verify M a", "a: not whole: in another form 1; nowhere 1"),
     ],
     # what was deleted is there again if another mailbox has it in another form, and that is said

@@ -1,18 +1,17 @@
 """Whether each message of a mailbox is in the folder of a Maildir that has its mail, for `verify`."""
 import array
-import collections
 import functools
 from itertools import compress, islice
 
-from ..maildir.checking import DOUBTFUL_LINE, NOWHERE, OTHER_FORM, SORTS, THERE, WITHOUT_FIELDS, Check
+from ..maildir.checking import DOUBTFUL_LINE, NOWHERE, SORTS, THERE, WITHOUT_FIELDS, Check, alike_in
 from ..maildir.either import Either
-from ..maildir.files import forms_in, paths_of
+from ..maildir.files import paths_of
 from ..mbox.inventory import IN_MEMORY
 from ..migration.outcomes import Detail, Observer, Row, Verdict
 from ..program import Program
 from ..readings.texts import Text
 from ..terminal import NAMED
-from ..units import Place, Say
+from ..units import Say
 from .files import Migrated
 
 
@@ -58,19 +57,10 @@ def check_of(program: bytes, maildir: bytes, text: Text, say: Say) -> Check:
 
 
 def take_alike(maildir: bytes, text: Text, check: Check) -> None:
-    """Takes a file for each message that is nowhere if they differ only in header fields that mail programs write for
-    themselves; otherwise one with the same core. Another mailbox has brought it, or a program has rewritten this one
-    since. `offers_of` in `ledger/assign.py` has a like rule, by lines of a ledger."""
-    if not check.count(NOWHERE):
-        return
-    inventory, taken = text.messages(), {*check.paths.values()}
-    named = (path for name, path in paths_of(maildir) if check.inventory.table.own_place(name) is None)
-    files = [(path, forms) for path in named if path not in taken for forms in [forms_in(path)] if forms]
-    for form, of_message, sort in ((1, inventory.bare, WITHOUT_FIELDS), (0, inventory.core, OTHER_FORM)):
-        wanted: collections.defaultdict[bytes, list[Place]] = collections.defaultdict(list)
-        for place in check.places(NOWHERE):
-            wanted[of_message(place)].append(place)
-        for path, forms in files:
-            if path not in taken and wanted.get(forms[form]):
-                check.take_alike(wanted[forms[form]].pop(0), path, sort)
-                taken.add(path)
+    """Takes a file for each message that is nowhere if they are alike: another mailbox has brought it, or a program has
+    rewritten this one since. `offers_of` in `ledger/assign.py` has a like rule, by lines of a ledger."""
+    nowhere, taken = [*check.places(NOWHERE)], {*check.paths.values()}
+    if nowhere:
+        named = (path for name, path in paths_of(maildir) if check.inventory.table.own_place(name) is None)
+        for place, path, sort in alike_in((one for one in named if one not in taken), text.messages(), nowhere):
+            check.take_alike(place, path, sort)

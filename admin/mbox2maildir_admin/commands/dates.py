@@ -5,10 +5,13 @@ from collections.abc import Sequence
 from typing import Optional
 
 from ..faults import Left, Reason, Status, complain_of
+from ..maildir.checking import alike_in
 from ..maildir.dating import Dating
 from ..maildir.either import Either
 from ..maildir.disk import Syncs
+from ..maildir.files import paths_of
 from ..maildir.folders import folder_shown
+from ..mbox.bases import before_info, is_own
 from ..mbox.mailbox import CHANGED_MEANWHILE, is_still
 from ..readings.texts import Text
 from ..terminal import complain, named, put
@@ -33,6 +36,17 @@ def do_dates(given: Given) -> int:
     return Status.of(complaints.is_well and dates.are_kept)
 
 
+def date_alike(dating: Dating, folder: bytes, text: Text) -> None:
+    """Gives dates to files that `migrate` placed for messages that have none: another mailbox has brought them, or a
+    program has rewritten this one since."""
+    missing, table = dating.missing(), dating.inventory.table
+    if missing:
+        placed = ((name, path) for name, path in paths_of(folder) if is_own(before_info(name)))
+        others = (path for name, path in placed if table.place(name) is None)
+        for place, path, _ in alike_in(others, text.messages(), missing):
+            dating.give_at(path, place)
+
+
 class Dates:
     """Gives the files of mailboxes their dates. The line of a mailbox is printed once its dates are on the disk."""
 
@@ -48,6 +62,7 @@ class Dates:
         either = Either.of(folder, text.messages(with_cores=False), text.mailbox, text.start)
         dating = Dating(text.mailbox, either.inventory, self.headers)
         dating.give_all(folder)
+        date_alike(dating, folder, text)
         if dating.one_date is not None:
             complain("%s: all From_ lines have the same date: %s" % (named(file), named(dating.one_date.rstrip())))
         for count, undated in enumerate(dating.not_dated(folder)):

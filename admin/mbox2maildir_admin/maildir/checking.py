@@ -15,7 +15,7 @@ from ..remarks import Says, Sentence
 from ..terminal import first_of
 from ..units import Place, Say, silent
 from .either import Others
-from .files import digest_of, listings_of, paths_of
+from .files import digest_of, forms_in, listings_of, paths_of
 
 # more threads gain little; each takes this many files at a time
 MOST_THREADS, BATCH = 4, 16
@@ -67,6 +67,24 @@ def last_paths(paths: Iterable[bytes]) -> list[bytes]:
 MESSAGES, LINES = (THERE, OTHER_BYTES, RENAMED, NOWHERE), (DOUBTFUL_LINE,)
 FILES: dict[Sort, Callable[[Iterable[bytes]], list[bytes]]] = {DOUBLE: list, OTHER_OWNER: last_paths}
 SORTS = *MESSAGES, *FILES, *LINES, WITHOUT_FIELDS, OTHER_FORM
+
+
+def alike_in(
+    paths: Iterable[bytes], inventory: Inventory, places: Iterable[Place]
+) -> Iterator[tuple[Place, bytes, Sort]]:
+    """Files at these paths for messages at these places that differ only in header fields that mail programs write for
+    themselves; then files with the same core."""
+    files = {path: forms for path in paths for forms in [forms_in(path)] if forms}
+    left = dict.fromkeys(places)
+    for form, of_message, sort in ((1, inventory.bare, WITHOUT_FIELDS), (0, inventory.core, OTHER_FORM)):
+        wanted: collections.defaultdict[bytes, list[Place]] = collections.defaultdict(list)
+        for place in left:
+            wanted[of_message(place)].append(place)
+        for path in [one for one, forms in files.items() if forms[form] in wanted]:
+            several = wanted[files[path][form]]
+            if several:
+                del files[path], left[several[0]]
+                yield several.pop(0), path, sort
 
 
 class Location(NamedTuple):

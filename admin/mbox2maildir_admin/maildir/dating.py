@@ -1,5 +1,6 @@
 """Gives converted files the dates of their From_ lines."""
 import array
+import contextlib
 import enum
 import functools
 import os
@@ -87,14 +88,20 @@ class Dating:
                 self.mailbox.say("dating file %d" % number)
                 place = table.place(name)
                 if place is not None:
-                    try:
-                        # no size is asked for, so the file is opened, and not hashed
-                        digest_of(path, (), functools.partial(self.give, place))
-                    except FileNotFoundError:
-                        # the file was renamed meanwhile
-                        continue
+                    self.give_at(path, place)
             if self.messages - self.states.count(Dated.NO_FILE) == known:
                 break
+
+    def give_at(self, path: bytes, place: Place) -> None:
+        """Gives the file of a message its date, unless that was renamed meanwhile."""
+        with contextlib.suppress(FileNotFoundError):
+            # no size is asked for, so the file is opened, and not hashed
+            digest_of(path, (), functools.partial(self.give, place))
+
+    def missing(self) -> list[Place]:
+        """The messages with a date and without a file."""
+        pairs = enumerate(zip(self.dates, self.states))
+        return [Place(place) for place, (date, state) in pairs if date != NO_DATE and state == Dated.NO_FILE]
 
     def remarks(self) -> list[Remark]:
         """What is to be said of messages whose From_ line has no date."""
