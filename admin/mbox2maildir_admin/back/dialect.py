@@ -130,7 +130,7 @@ class Client(NamedTuple):
         found = filter(None, map(EVOLUTION_NUMBER.search, headers_at(mailbox, inventory.offsets[:-1])))
         return cls(kept.program, max((int(one[1], 16) for one in found), default=0))
 
-    def bared(self, header: bytes) -> tuple[bytes, Sequence[bytes]]:
+    def cleared(self, header: bytes) -> tuple[bytes, Sequence[bytes]]:
         """A header without the fields of this program, and without those that no message brings into any mailbox;
         and the names of these."""
         fields = pattern_of((*OUT_OF_APPENDED, *KEPT.get(self.program, ())))
@@ -180,7 +180,7 @@ def written(
     wrote are taken out, new ones come first: those in which something is noted for Dovecot, those of the client, to
     which it is the message of this number, and those that any mailbox has."""
     header, gap, body = parted(letter.text)
-    header, taken = client.bared(header)
+    header, taken = client.cleared(header)
     core, bares = forms_of_letter(header + gap + body)
     sender = RETURN_PATH.search(header)
     from_line = b"From %s %s\n" % (sender[1] if sender else NOBODY, date_of(letter.time))

@@ -200,7 +200,7 @@ def next_of_prepared(maildir: str, folder: bytes, origin: Origin) -> Next:
 
 def with_dovecot(words: str) -> list[str]:
     """The option with which a mailbox was migrated that was read by these words."""
-    return ["--dovecot"] * Reading.of_words(words).bare
+    return ["--dovecot"] * Reading.of_words(words).stripped
 
 
 def mails_of(maildir: bytes, places: Iterable[bytes], say: Say) -> Iterator[Mail]:

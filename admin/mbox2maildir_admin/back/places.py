@@ -104,7 +104,7 @@ class Places:
         if before.key == mailbox.key():
             # any two that are empty have the same bytes
             return is_same or mailbox.size > 0
-        reading = Reading.of_words(before.words)._replace(bare=False)
+        reading = Reading.of_words(before.words)._replace(stripped=False)
         with text_then(mailbox, reading, folder_for_copies(self.record.maildir, self.record.is_dry)) as text:
             return is_same and text is not None and ledger.is_in(path, cores_of(text.messages()))
 

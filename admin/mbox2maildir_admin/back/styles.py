@@ -53,7 +53,7 @@ class Style(NamedTuple):
         the text that was read, and its messages."""
         if not mailbox.size:
             return Inventory()
-        with text_then(mailbox, Reading.of_words(self.words)._replace(bare=False), self.disk) as text:
+        with text_then(mailbox, Reading.of_words(self.words)._replace(stripped=False), self.disk) as text:
             if not text:
                 raise Left(NO_LONGER % self.words, Reason.ANOTHER_READING)
             with contextlib.ExitStack() as stack:

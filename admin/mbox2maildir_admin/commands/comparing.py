@@ -51,7 +51,9 @@ def check_of(program: bytes, maildir: bytes, text: Text, say: Say) -> Check:
         # all files have what is in the text
         check.look_first = functools.partial(either.inventory.digest_by, text.mailbox)
     check.look(maildir)
-    check.besides[WITHOUT_FIELDS] = array.array("Q", compress(range(len(inventory)), either.are_bare(check.digests())))
+    check.besides[WITHOUT_FIELDS] = array.array(
+        "Q", compress(range(len(inventory)), either.are_stripped(check.digests()))
+    )
     take_alike(maildir, text, check)
     return check
 

@@ -145,7 +145,7 @@ class Migrated(NamedTuple):
             if not type_at(path) or any(is_folder(os.path.join(self.folder, sub)) for sub in WITH_MAIL):
                 raise
             last = self.record.last_of(self.name, self.record.names_of(self.file))
-            words = ["--dovecot"] * any(Reading.of_words(line.words).bare for line in self.record.lines())
+            words = ["--dovecot"] * any(Reading.of_words(line.words).stripped for line in self.record.lines())
             if last and last.what is Event.DONE:
                 why, path, words, does = "its folder is gone", self.file, ["--again", *words], Does.BRINGS_BACK
             else:

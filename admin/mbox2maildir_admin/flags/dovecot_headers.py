@@ -227,20 +227,20 @@ def is_listed(marks: int) -> bool:
     return bool(marks >> LISTED & 1)
 
 
-def flags_of(marks: int, is_bare: bool) -> str:
-    """The letters of the flags of a message with these marks: those that Dovecot reads if it is converted bare,
+def flags_of(marks: int, is_stripped: bool) -> str:
+    """The letters of the flags of a message with these marks: those that Dovecot reads if it is converted stripped,
     otherwise those that mbox2maildir gives."""
-    return "".join(flag for place, flag in enumerate(FLAGS) if marks >> place + (32 if is_bare else 40) & 1)
+    return "".join(flag for place, flag in enumerate(FLAGS) if marks >> place + (32 if is_stripped else 40) & 1)
 
 
-def flags_in(header: bytes, is_bare: bool) -> str:
+def flags_in(header: bytes, is_stripped: bool) -> str:
     """The letters of the flags in a header."""
     # much mail has none, and it takes long to look for fields
-    return flags_of(marks_of(fields_of(header), {}), is_bare) if b"status" in header.lower() else ""
+    return flags_of(marks_of(fields_of(header), {}), is_stripped) if b"status" in header.lower() else ""
 
 
 def info_of(marks: int, current: str) -> str:
-    """The letters after `:2,` for a message with these marks that was converted bare, given those that its name has
+    """The letters after `:2,` for a message with these marks that was converted stripped, given those that its name has
     now."""
     keywords = (chr(ord("a") + place) for place in range(LETTERS) if marks >> place & 1)
     return "".join(sorted({*current, *flags_of(marks, True), *keywords}))

@@ -139,13 +139,13 @@ class Look:
                 self.unescaped.add(self.claimed_by)
         else:
             sort = self.sort_of(piece, dated, has_header)
-        by, is_bare = self.claimed_by if inside else None, not dated and not has_header
+        by, is_lone = self.claimed_by if inside else None, not dated and not has_header
         self.seen[sort].add(piece.offset, from_line, by)
         self.doubts.take(sort, piece, may_hold_mail(from_line))
         # which words a line after the first contradicts, among those that say how a text was written
         for against, is_so in (
-            ("against each line", inside or is_bare),
-            ("against lengths", (has_header if dated else sort in MAY_BE_MAIL) if inside else is_bare),
+            ("against each line", inside or is_lone),
+            ("against lengths", (has_header if dated else sort in MAY_BE_MAIL) if inside else is_lone),
             ("against dates", dated and not has_header),
         ):
             if is_so and piece.offset > self.start:

@@ -2,7 +2,7 @@
 
 Dovecot's mbox driver keeps what it knows of a message in the message's header, and shows the mail without these fields.
 A field begins at the beginning of a line, with its name, any blanks and tabs, and a colon that is near enough. The
-lines after it that begin with a blank or a tab belong to it. The bare text is a text without these fields, and the
+lines after it that begin with a blank or a tab belong to it. The stripped text is a text without these fields, and the
 bare form of a message is the message without all that programs note. A header ends at the first empty line, which
 Dovecot writes without its CR, or at the next line `From `.
 """
@@ -70,8 +70,8 @@ def without(fields: re.Pattern[bytes], data: bytes, begin: int, end: int, begun:
     return data[:begin] + rest[1 + len(begun) * bool(kept[0]) :] + data[end:]
 
 
-def bared(piece: Piece) -> bytes:
-    """The bare text of a piece."""
+def stripped(piece: Piece) -> bytes:
+    """The stripped text of a piece."""
     if piece.field is None:
         return piece.data
     end, body = header_of(piece.data, piece.mail_start)
@@ -83,9 +83,9 @@ def bared(piece: Piece) -> bytes:
     return text[:place] + text[place + 1 :]
 
 
-def bare_pieces(pieces: Iterable[Piece]) -> Iterator[Piece]:
-    """The pieces of a text, each with its bare text."""
-    return (piece._replace(data=bared(piece)) for piece in pieces)
+def stripped_pieces(pieces: Iterable[Piece]) -> Iterator[Piece]:
+    """The pieces of a text, each with its stripped text."""
+    return (piece._replace(data=stripped(piece)) for piece in pieces)
 
 
 class Header:

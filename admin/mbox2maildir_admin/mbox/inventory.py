@@ -16,7 +16,7 @@ from ..units import Offset, Place
 from .bases import Table
 from .core import SHORT, Digests
 from .dates import seconds_of, seconds_of_plain
-from .fields import NAME, NOTED_FIELD, bare_pieces
+from .fields import NAME, NOTED_FIELD, stripped_pieces
 from .files import LONG, Reader
 from .mailbox import Mailbox, lines_at
 from .pieces import FROM, Piece, pieces_of
@@ -164,10 +164,10 @@ def messages_in(path: bytes, pieces: Iterable[WithPlain], with_cores: bool = Fal
             yield begun.message()
 
 
-def messages_of(mailbox: Mailbox, start: Offset, is_bare: bool = False) -> Iterator[Message]:
-    """The messages of a text that begins at an offset, or those of its bare text."""
+def messages_of(mailbox: Mailbox, start: Offset, is_stripped: bool = False) -> Iterator[Message]:
+    """The messages of a text that begins at an offset, or those of its stripped text."""
     pieces = pieces_of(mailbox.again(start).read, start)
-    return messages_in(mailbox.path, ((piece, None) for piece in (bare_pieces(pieces) if is_bare else pieces)))
+    return messages_in(mailbox.path, ((piece, None) for piece in (stripped_pieces(pieces) if is_stripped else pieces)))
 
 
 class Inventory:

@@ -142,7 +142,7 @@ def contradicts(options: Options, opened: Opened, line: RecordLine) -> bool:
     by = options.disk(opened.maildir), options.extra.start_of
     try:
         with choice_of(opened.mailbox, by[0], decision=options.decision) as choice:
-            then, now = Reading.of_words(line.words)._replace(bare=False), choice.plan.reading
+            then, now = Reading.of_words(line.words)._replace(stripped=False), choice.plan.reading
             if then.of_text == now.of_text:
                 return False
             with text_then(choice.mailbox, then, *by) as was, text_then(choice.mailbox, now, *by) as is_now:
@@ -200,9 +200,9 @@ def want_same_reading(options: Options, known: Known, choice: Choice, contents: 
     """Raises Left if more of what the ledger has of a mailbox is in it as it was read then, with what to run."""
     before, opened = Before.of(known, contents.reading), known.opened
     disk = options.disk(opened.maildir)
-    command = options.command(opened, again=options.again, dovecot=before.reading.bare)
-    if before.reading.bare != contents.reading.bare and not options.again and has_begun(known):
-        says = "its conversion was begun %s --dovecot" % ("with" if before.reading.bare else "without")
+    command = options.command(opened, again=options.again, dovecot=before.reading.stripped)
+    if before.reading.stripped != contents.reading.stripped and not options.again and has_begun(known):
+        says = "its conversion was begun %s --dovecot" % ("with" if before.reading.stripped else "without")
         raise Left(says, Reason.ANOTHER_READING, (Answer(command),))
     if before.reading.of_text == contents.reading.of_text:
         return
@@ -287,7 +287,7 @@ def given_by(options: Options, known: Known, text: Mailbox, had: Had, lines: Ite
     choice = Choice(text, plan_of(text, decision=options.decision))
     with choice.text(options.disk(known.opened.maildir)) as whole:
         part = whole.begun_by(options.extra.start_of)
-        contents = Contents(part, part.messages(), choice.plan.bared(options.extra.IS_BARE).reading)
+        contents = Contents(part, part.messages(), choice.plan.stripped(options.extra.IS_STRIPPED).reading)
         is_shown = are_brought(had, contents.inventory, lines)
         if is_shown:
             # a mailbox that is read so also goes on as it was read before

@@ -339,7 +339,7 @@ def hand_flags_over(one: Steps, path: bytes, place: int) -> None:
     """Adds the flags of a file to those of a message that this program has placed, at its place in the text. That it
     was deleted was said of the beginning alone. A server's own flags are those of the mailbox."""
     letters = {*letters_of(os.path.basename(path))} & STAYING
-    if letters and not one.contents.is_bare:
+    if letters and not one.contents.is_stripped:
         its = ["".join(letters) if other == place else "" for other in one.places]
         add_flags(one.opened.folder, one.files, its, one.is_unread)
 

@@ -68,7 +68,7 @@ class Dovecot(Extra):
     """Brings UIDs, flags and keywords of a mailbox into the folder, as Dovecot's mbox driver read them. Leaves out
     the header fields that hold them, which that driver hides."""
 
-    IS_BARE = True
+    IS_STRIPPED = True
 
     def __init__(self, record: Record) -> None:
         super().__init__()
@@ -99,7 +99,7 @@ class Dovecot(Extra):
             if one.was_begun:
                 remove_lists(self.record, one.opened, one.known.path)
             self.write(one, found)
-        elif one.contents.is_bare:
+        elif one.contents.is_stripped:
             # the folder keeps its UIDs, and its new messages get those flags of their headers that their files lack
             marks = [marks_of(fields_of(one.contents.header(Place(place))), {}) for place in one.places]
             letters = [info_of(its, "") for its in marks]

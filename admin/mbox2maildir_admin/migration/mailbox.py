@@ -285,9 +285,9 @@ class Transfer:
         if part:
             yield part
             return
-        mailbox, is_bare, given = self.opened.mailbox, self.options.extra.IS_BARE, self.options.decision
+        mailbox, is_stripped, given = self.opened.mailbox, self.options.extra.IS_STRIPPED, self.options.decision
         decision = given._replace(noted=noted_last(answers_of(self.known), given))
-        with choice_at_once(self.program, mailbox, self.disk, decision, is_bare) as choice:
+        with choice_at_once(self.program, mailbox, self.disk, decision, is_stripped) as choice:
             self.remarks += [Says.AS_ANSWERED.of()] * (given == UNDECIDED and choice.plan.answer is not None)
             yield Part(choice, functools.partial(self.read, choice), mailbox.size)
 
@@ -523,7 +523,7 @@ class Transfer:
     @contextlib.contextmanager
     def read(self, choice: Choice) -> Iterator[Contents]:
         """Reads the text that stands for the mailbox. The program must list the same messages."""
-        copies = choice.plan.is_copied + choice.plan.reading.bare
+        copies = choice.plan.is_copied + choice.plan.reading.stripped
         if copies:
             self.want_room(Need.of(self.disk, [], copies * choice.mailbox.size))
         with choice.text(self.disk) as whole:

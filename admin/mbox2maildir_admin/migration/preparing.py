@@ -265,10 +265,10 @@ def want_usable(one: Preparation, options: Options, opened: Opened) -> None:
     reader = one.reader()
     if reader:
         raise Left(READ % named(reader), Reason.PREPARED, then)
-    origin, was_bare = one.prepared.origin, not options.extra.IS_BARE
-    if origin and Reading.of_words(origin.words).bare == was_bare:
-        run = Answer(command(dovecot=was_bare), Does.RUN)
-        raise Left(OTHERWISE % ("with" if was_bare else "without"), Reason.PREPARED, (run,))
+    origin, was_stripped = one.prepared.origin, not options.extra.IS_STRIPPED
+    if origin and Reading.of_words(origin.words).stripped == was_stripped:
+        run = Answer(command(dovecot=was_stripped), Does.RUN)
+        raise Left(OTHERWISE % ("with" if was_stripped else "without"), Reason.PREPARED, (run,))
 
 
 def reader_in(record: Record, name: bytes, prepared: Prepared) -> Optional[bytes]:
@@ -360,7 +360,7 @@ def same_as_prepared(prepared: Prepared, options: Options, opened: Opened) -> Op
     if not origin or not as_read or prepared.batch or is_otherwise:
         return None
     reading = Reading.of_words(origin.words)
-    if reading.bare != options.extra.IS_BARE or origin.key[0] != mailbox.size or origin.key != mailbox.key():
+    if reading.stripped != options.extra.IS_STRIPPED or origin.key[0] != mailbox.size or origin.key != mailbox.key():
         return None
     prepared.look(mailbox.say)
     inventory = prepared.inventory(mailbox.size)
@@ -371,13 +371,13 @@ def same_as_prepared(prepared: Prepared, options: Options, opened: Opened) -> Op
     dates = (seconds_of(mailbox.from_line_at(offset)) for offset in inventory.offsets[:-1])
     inventory.dates = array.array("q", (NO_DATE if date is None else date for date in dates))
     text = Text(mailbox, plan.start, offsets=inventory.offsets)
-    contents = Contents(text._replace(full=text) if reading.bare else text, inventory, reading)
+    contents = Contents(text._replace(full=text) if reading.stripped else text, inventory, reading)
     return Part(Choice(mailbox, plan), lambda: contextlib.nullcontext(contents), mailbox.size, is_as_prepared=True)
 
 
 def is_by_word(reading: Reading) -> bool:
-    """Whether nothing but a word says how a text is read, so that it may be converted as it is, or as bare text."""
-    return bool(reading.word) and reading == Reading(reading.word, bare=reading.bare)
+    """Whether nothing but a word says how a text is read, so that it may be converted as it is, or as stripped text."""
+    return bool(reading.word) and reading == Reading(reading.word, stripped=reading.stripped)
 
 
 def row_unchanged(record: Record, options: Options, path: bytes, name: bytes, say: Say) -> Optional[Row]:
@@ -389,7 +389,7 @@ def row_unchanged(record: Record, options: Options, path: bytes, name: bytes, sa
         return None
     # once the folder is done, its list may come from a backup
     is_same = origin.state == facts_of_mailbox(os.stat(path)) and origin.path in record.names_of(path)
-    if not is_same or not record.prepared(name) or Reading.of_words(origin.words).bare != options.extra.IS_BARE:
+    if not is_same or not record.prepared(name) or Reading.of_words(origin.words).stripped != options.extra.IS_STRIPPED:
         return None
     prepared.look(say)
     if not all(prepared.files) or prepared.edited or reader_in(record, name, prepared):

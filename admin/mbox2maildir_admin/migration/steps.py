@@ -43,8 +43,8 @@ class Contents(NamedTuple):
         return self.text.full or self.text._replace(offsets=self.inventory.offsets)
 
     @property
-    def is_bare(self) -> bool:
-        """Whether its bare text goes into the files."""
+    def is_stripped(self) -> bool:
+        """Whether its stripped text goes into the files."""
         return self.text.full is not None
 
     def header(self, place: Place) -> bytes:
@@ -55,7 +55,7 @@ class Contents(NamedTuple):
     def is_trashed(self, place: Place) -> bool:
         """Whether a message is marked as deleted."""
         header = self.header(place)
-        return "T" in flags_in(header, self.is_bare) + (letters_of_evolution(header) or "")
+        return "T" in flags_in(header, self.is_stripped) + (letters_of_evolution(header) or "")
 
     def unquoted(self, places: Sequence[int]) -> int:
         """How many lines of messages at some places lose a `>`."""
@@ -174,8 +174,8 @@ class Steps(NamedTuple):
 class Extra:
     """What is done for a mailbox besides mail and dates: here, the flags that a mail program kept in its headers."""
 
-    # whether bare text goes into the files
-    IS_BARE = False
+    # whether stripped text goes into the files
+    IS_STRIPPED = False
 
     def __init__(self, by_labels: Optional[KeptFlags] = None) -> None:
         """Takes the flags if they are known by the labels of a Takeout, whose folders were asked for."""
@@ -249,7 +249,7 @@ def remarks_on_flags_that_differ(one: Steps) -> Iterator[Remark]:
         if base not in places:
             return ""
         place = places[base]
-        flags = flags_in(one.contents.header(place), one.contents.is_bare)
+        flags = flags_in(one.contents.header(place), one.contents.is_stripped)
         return flags + (by_labels.letters[place] if by_labels else "")
 
     if places:

@@ -50,9 +50,9 @@ class Plan(NamedTuple):
         """Whether the mailbox has no mail, also none that is left out."""
         return not (self.messages or self.reading.dropped)
 
-    def bared(self, is_bare: bool) -> "Plan":
+    def stripped(self, is_stripped: bool) -> "Plan":
         """The same plan; whether it leaves out the header fields that mail programs wrote for themselves."""
-        return self._replace(reading=self.reading._replace(bare=is_bare))
+        return self._replace(reading=self.reading._replace(stripped=is_stripped))
 
 
 class Choosable(NamedTuple):

@@ -13,7 +13,7 @@ from ..faults import Fault, Reason
 from ..flags.clients import is_deleted
 from ..kinds.starts import end_of_row
 from ..mbox.dates import is_dated
-from ..mbox.fields import Header, bare_pieces
+from ..mbox.fields import Header, stripped_pieces
 from ..mbox.mailbox import Mailbox, Watched
 from ..mbox.pieces import FROM, Piece, header_of, pieces_of
 from ..units import LineNumber, Offset, Size
@@ -174,23 +174,23 @@ class Quoter:
             raise Fault(says + "".join(", and %d expected" % one for one in wanted), Reason.MISREAD)
 
 
-def give_all(quoter: Quoter, take: Callable[[bytes], object], is_bare: bool) -> int:
-    """Gives a text as it is read, bare or not, to a function that takes bytes. Returns how many it was given."""
+def give_all(quoter: Quoter, take: Callable[[bytes], object], is_stripped: bool) -> int:
+    """Gives a text as it is read, stripped or not, to a function that takes bytes. Returns how many it was given."""
     read, given = quoter.run(), 0
-    if is_bare:
+    if is_stripped:
         several = filter(None, read)
-        read = (piece.data for piece in bare_pieces(pieces_of(lambda _: next(several, b""))))
+        read = (piece.data for piece in stripped_pieces(pieces_of(lambda _: next(several, b""))))
     for data in read:
         take(data)
         given += len(data)
     return given
 
 
-def write_copy(reading: Reading, mailbox: Mailbox, start: Offset, wanted: int, copy: Copy, is_bare: bool) -> Quoter:
-    """Writes a copy without correct lengths that has as many messages as wanted, bare or not, and gives it its name.
-    Returns its Quoter."""
+def write_copy(reading: Reading, mailbox: Mailbox, start: Offset, wanted: int, copy: Copy, is_stripped: bool) -> Quoter:
+    """Writes a copy without correct lengths that has as many messages as wanted, stripped or not, and gives it its
+    name. Returns its Quoter."""
     quoter = Quoter(reading, mailbox, start, keeps_lengths=False)
-    given = give_all(quoter, copy.write, is_bare)
+    given = give_all(quoter, copy.write, is_stripped)
     size, messages = copy.written()
     quoter.check(quoter.given - given + size, messages, wanted)
     copy.place(mailbox.copied or mailbox.state)

@@ -23,7 +23,7 @@ MBOXRD, MBOXO, MBOXCL, MBOXCL2, UNQUOTED = WORDS = ("mboxrd", "mboxo", "mboxcl",
 BY_LENGTHS = MBOXCL, MBOXCL2
 # line ends of CR LF, in the messages whose From_ line has them, and of CR alone in all of the text
 CRLF, CR = "crlf", "cr"
-DROP, BARE = "drop-deleted", "dovecot"
+DROP, STRIPPED = "drop-deleted", "dovecot"
 # what is said in a record of an answer for several mailboxes
 SEVERAL = "several"
 
@@ -48,7 +48,7 @@ class Reading(NamedTuple):
     ends: str = ""
     dropped: int = 0
     part: str = ""
-    bare: bool = False
+    stripped: bool = False
     noted: Optional["Reading"] = None
 
     @property
@@ -58,8 +58,8 @@ class Reading(NamedTuple):
 
     @property
     def of_text(self) -> "Reading":
-        """How all of the text is read. What it has as bare text, and what goes into each of several folders, depends
-        only on that."""
+        """How all of the text is read. What it has as stripped text, and what goes into each of several folders,
+        depends only on that."""
         return Reading(self.word, self.text, self.begin, self.of, self.drop, self.alone, self.ends)
 
     def options(self) -> list[str]:
@@ -73,7 +73,7 @@ class Reading(NamedTuple):
         of_human = {"text": numbers(self.text), "begin": numbers(self.begin), "of": self.of}
         pairs = {**of_human, "dropped": str(self.dropped or ""), "labels": self.part}
         named = ("%s=%s" % pair for pair in pairs.items() if pair[1])
-        marks = DROP * self.drop, BARE * self.bare, SEVERAL * (not self.alone)
+        marks = DROP * self.drop, STRIPPED * self.stripped, SEVERAL * (not self.alone)
         return " ".join(filter(None, [self.word, *named, self.ends, *marks]))
 
     @classmethod
@@ -89,7 +89,7 @@ class Reading(NamedTuple):
         word = several[0] if several[0] in WORDS else ""
         ends = next((one for one in (CRLF, CR) if one in named), "")
         found = cls(word, text, begin, named.get("of", ""), DROP in named, SEVERAL not in named, ends, dropped)
-        found = found._replace(part=named.get("labels", ""), bare=BARE in named)
+        found = found._replace(part=named.get("labels", ""), stripped=STRIPPED in named)
         return found if found.words() == words else cls()
 
 

@@ -18,7 +18,7 @@ from ..kinds.starts import text_start
 from ..looks import is_folder, may_write
 from ..maildir.files import paths_of
 from ..maildir.disk import trial_folder
-from ..mbox.fields import bared
+from ..mbox.fields import stripped
 from ..mbox.files import Reader
 from ..mbox.inventory import Inventory, messages_of
 from ..mbox.lines import Said
@@ -41,8 +41,8 @@ NO_LONGER = "it can no longer be read as it was read when it was migrated (%s)"
 
 class Text(NamedTuple):
     """The text that stands for a mailbox, and where its messages begin. For a quoted copy it also has the lines of the
-    mailbox in which each message begins, and how many lines were quoted before each, and in all; a bare copy has the
-    text that it was made of, and where the messages of both begin and the last one ends."""
+    mailbox in which each message begins, and how many lines were quoted before each, and in all; a stripped copy has
+    the text that it was made of, and where the messages of both begin and the last one ends."""
 
     mailbox: Mailbox
     start: Offset
@@ -53,17 +53,17 @@ class Text(NamedTuple):
     # whether it is read as it was when it was recorded, with the same bytes
     is_recorded: bool = False
 
-    def bare(self, folder: bytes) -> "Text":
-        """The bare copy of a text, on the disk of a folder."""
-        offsets, bare_offsets = array.array("Q"), array.array("Q")
+    def stripped(self, folder: bytes) -> "Text":
+        """The stripped copy of a text, on the disk of a folder."""
+        offsets, stripped_offsets = array.array("Q"), array.array("Q")
 
         def given() -> Iterator[bytes]:
             mailbox, size = self.mailbox, 0
             for piece in pieces_of(mailbox.again(self.start).read, self.start):
                 if piece.begins:
                     offsets.append(piece.offset)
-                    bare_offsets.append(size)
-                data = bared(piece)
+                    stripped_offsets.append(size)
+                data = stripped(piece)
                 size += len(data)
                 yield data
                 mailbox.say("copying", piece.offset, mailbox.size)
@@ -71,9 +71,9 @@ class Text(NamedTuple):
 
         copy = copy_of(self.mailbox, given(), folder)
         offsets.append(self.mailbox.size)
-        bare_offsets.append(copy.size)
+        stripped_offsets.append(copy.size)
         full = self._replace(offsets=offsets)
-        return Text(copy, Offset(0), self.lines, self.quoted_before, full, bare_offsets)
+        return Text(copy, Offset(0), self.lines, self.quoted_before, full, stripped_offsets)
 
     def begun_by(self, start_of: StartOf) -> "Text":
         """The same text from the message on whose offset in the text with all header fields `start_of` gives."""
@@ -112,7 +112,7 @@ class Choice(NamedTuple):
     def text(self, folder: bytes) -> contextlib.AbstractContextManager[Text]:
         """The text itself. A copy is made on the disk of a folder."""
         plan = self.plan
-        reading = plan.reading if plan.is_copied else PLAIN._replace(bare=plan.reading.bare)
+        reading = plan.reading if plan.is_copied else PLAIN._replace(stripped=plan.reading.stripped)
         return text_by(reading, self.mailbox, plan.start, folder, plan.messages)
 
 
@@ -128,8 +128,8 @@ def text_by(reading: Reading, mailbox: Mailbox, start: Offset, folder: bytes, *w
                 stack.enter_context(copy)
                 text = Text(copy, Offset(0), quoter.lines, quoter.quoted_before)
             quoter.check(copy.size if copy else quoter.given, quoter.messages, *wanted)
-        if reading.bare:
-            text = text.bare(folder)
+        if reading.stripped:
+            text = text.stripped(folder)
             stack.enter_context(text.mailbox)
         yield text
 
@@ -229,15 +229,15 @@ def choice_of(
 
 @contextlib.contextmanager
 def choice_at_once(
-    program: Program, mailbox: Mailbox, folder: bytes, decision: Reading, is_bare: bool = False
+    program: Program, mailbox: Mailbox, folder: bytes, decision: Reading, is_stripped: bool = False
 ) -> Iterator[Choice]:
     """The same, with the messages if they can be read in the pass in which the text is looked at."""
     at_once = AtOnce(program)
     read: HowFar = at_once.read
-    if is_bare or decision.word or decision.noted:
+    if is_stripped or decision.word or decision.noted:
         read = Look.read
     with choice_of(mailbox, folder, read, decision) as choice:
-        yield choice._replace(plan=choice.plan.bared(is_bare), known=at_once.known)
+        yield choice._replace(plan=choice.plan.stripped(is_stripped), known=at_once.known)
 
 
 def plan_of_packed(text: Mailbox, form: Form, read: HowFar, decision: Reading) -> Plan:
@@ -280,7 +280,7 @@ def open_text(path: bytes, maildir: bytes, say: Say, recorded: ReadingOf) -> Ite
         mailbox = stack.enter_context(Mailbox.open(path, say))
         source = stack.enter_context(content_of(mailbox, where))
         reading, is_same = recorded(mailbox)
-        then = stack.enter_context(text_then(source, reading._replace(bare=False), where))
+        then = stack.enter_context(text_then(source, reading._replace(stripped=False), where))
         try:
             text = then or stack.enter_context(Choice(source, plan_of(source)).text(where))
         except Left:

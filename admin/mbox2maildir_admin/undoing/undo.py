@@ -160,7 +160,7 @@ class Undo:
         """How often the mailbox has each core now, as it was read when it was migrated."""
         words, disk = ledger.last_read(path).words, self.options.disk(self.record.maildir)
         reading = Reading.of_words(words)
-        extra = Dovecot(self.record) if reading.bare else Extra()
+        extra = Dovecot(self.record) if reading.stripped else Extra()
         # it still has what was marked as deleted since
         reading = with_deleted(reading)
         with content_of(opened.mailbox, disk) as text, text_then(text, reading, disk, extra.start_of) as then:

@@ -100,4 +100,4 @@ class DialectTest(unittest.TestCase):
         self.assertEqual(one.text.split(b"\n", 1)[1], b"A: b\n\nStatus: x\n\n")
         self.assertEqual(one.taken, [b"Content-Length", b"STATUS", b"X-UID", b"X-Keywords"])
         for header in (b"", b"Status: x", b"Status: x\n", b" Status: x\n", b"X-Mozilla-Status: 1\n"):
-            self.assertEqual(Client().bared(header)[0], b"" if header.startswith(b"Status") else header)
+            self.assertEqual(Client().cleared(header)[0], b"" if header.startswith(b"Status") else header)

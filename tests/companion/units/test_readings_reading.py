@@ -23,7 +23,7 @@ class WordsTest(unittest.TestCase):
             (Reading("mboxo", ends="crlf"), "--as mboxo", "mboxo crlf"),
             (Reading("unquoted", ends="cr"), "--as unquoted", "unquoted cr"),
             (Reading("mboxcl2", drop=True, dropped=3), "--as mboxcl2 --drop-deleted", "mboxcl2 dropped=3 drop-deleted"),
-            (Reading("mboxrd", part="0123", bare=True), "--as mboxrd", "mboxrd labels=0123 dovecot"),
+            (Reading("mboxrd", part="0123", stripped=True), "--as mboxrd", "mboxrd labels=0123 dovecot"),
             (Reading("mboxo", alone=False), "--as mboxo", None),
         ):
             if options is not None:
@@ -52,7 +52,7 @@ class WordsTest(unittest.TestCase):
     def test_parts(self) -> None:
         """What a human may decide, and how all of the text is read."""
         decided = Reading("mboxo", lines(3), lines(5), "a-1", True)
-        whole = decided._replace(ends="crlf", dropped=2, part="0123", bare=True)
+        whole = decided._replace(ends="crlf", dropped=2, part="0123", stripped=True)
         self.assertEqual(whole.decided, decided)
         self.assertEqual(whole.of_text, decided._replace(ends="crlf"))
 
