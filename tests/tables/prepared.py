@@ -351,6 +351,20 @@ STORIES: dict[str, list[Step]] = {
         f'!test -z "$(grep bring said; {BRINGS} M older; {BRINGS} M older/b)"',
         "= a/one b/two x/one .x+",
     ],
+    "undone_once_it_was_moved": [
+        *(
+            ("old/a", ONE),
+            FIRST_OF_TREE,
+            "!mv old older",
+            ("migrate --undo M older/a", "older/a: undone: removed 1 ..."),
+        ),
+        *steps("=", ("older/a", ONE + TWO), FIRST_OF_TREE + "er", ("older/a", ONE + THREE), *killed(TREE + "er")),
+        *("!mv older old", ("migrate --undo M old/a", "old/a: undone: removed 2 messages"), "="),
+    ],
+    "undone_beside_an_equal_one_that_is_gone": [
+        *(("b", ONE), "migrate --folder b M b", ("a", ONE), "migrate --prepare --unread --folder a M a", "!rm a"),
+        *(("migrate --undo M b", "b: undone: removed 1 message"), "= a/one .a+"),
+    ],
     "undone_in_the_folder_that_is_named": [
         *(("a", ONE), FIRST, "!mv a b", ("migrate --undo --folder INBOX M b", "b: undone: removed 1 message"), "="),
     ],

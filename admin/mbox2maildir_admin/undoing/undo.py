@@ -358,14 +358,17 @@ def alone_in(folder: bytes) -> Iterator[None]:
 def undo_prepared(record: Record, path: bytes, options: Options, say: Say) -> Optional[Row]:
     """Removes what was prepared from the mailbox of a path, which need not be there, and returns its row; None if
     nothing was, or a list that is there does not count. In a folder that is named, what was prepared from one that is
-    gone counts too: this may be it, moved."""
+    gone counts too, and elsewhere if that had the same bytes: this may be it, moved."""
     folder = options.named_folder
     try:
-        names, several = record.names_of(path), folders_in(record.maildir)
-        for place in filter(has_list, several if folder is None else [folder_path(record.maildir, folder)]):
-            origin = origin_in(place)
-            if origin is not None and origin.path in names if folder is None else not other_in(origin, names):
-                return remove_prepared(record, path, name_of(record.maildir, place), options.dry, say)
+        names, root = record.names_of(path), record.maildir
+        places = folders_in(root) if folder is None else [folder_path(root, folder)]
+        origins = {name_of(root, place): origin_in(place) for place in filter(has_list, places)}
+        own = [name for name, origin in origins.items() if origin is not None and origin.path in names]
+        moved = [] if own or record.folders_of(path) else folders_of_moved(path, record)
+        for name in [*own, *moved] if folder is None else [folder]:
+            if name in origins and not other_in(origins[name], names):
+                return remove_prepared(record, path, name, options.dry, say)
         return None
     except (Fault, OSError) as fault:
         return row_left(path, folder or b"", fault)
