@@ -163,6 +163,8 @@ def broken_off(home: Path) -> None:
             "left on device; what was done is in the record: run the same command again\n",
         ),
     )
+    ran = run_printed("mbox2maildir-admin migrate --dry-run N two >/dev/full", home)
+    equal("a rehearsal that notes nothing", (ran.status, "record" in ran.err), (1, False))
     expect("migrate --all M box two", home, 0, "2 mailboxes: 2 done before\n")
     equal("what is there", subjects(home / "M"), ["one", "two"])
 

@@ -38,7 +38,8 @@ def do_migrate(given: Given) -> int:
         reporter.notes += (ONLY_PREPARED,) * given.prepare
         reporter.ask(lambda words: task_of(given.read(words))(reporter))
 
-    return run_reported(migrate, reporter, given.report, "what was done is in the record: run the same command again")
+    noted = "" if given.dry_run or given.prepare else "what was done is in the record: "
+    return run_reported(migrate, reporter, given.report, noted + "run the same command again")
 
 
 def task_of(given: Given) -> Telling:
