@@ -387,9 +387,9 @@ def row_unchanged(record: Record, options: Options, path: bytes, name: bytes, sa
     origin = prepared.origin
     if not origin or not prepared.is_whole or prepared.batch or prepared.has_failed or options.decision != UNDECIDED:
         return None
-    # once the folder is done, its list may come from a backup
+    # where mailboxes have brought mail, a list comes from a backup
     is_same = origin.state == facts_of_mailbox(os.stat(path)) and origin.path in record.names_of(path)
-    if not is_same or not record.prepared(name) or Reading.of_words(origin.words).stripped != options.extra.IS_STRIPPED:
+    if not is_same or record.last_events(name) or Reading.of_words(origin.words).stripped != options.extra.IS_STRIPPED:
         return None
     prepared.look(say)
     if not all(prepared.files) or prepared.edited or reader_in(record, name, prepared):
