@@ -165,8 +165,9 @@ class Trip:
         again = self.done(*case.run(*BACK))
         if self.commands(again):
             raise Failed(f"Dovecot was told, and is to be told again: {again}\n{says}")
-        self.compare(first, there, self.shown(case.name, "back"), says)
-        self.compare_subscriptions(says)
+        back = self.shown(case.name, "back")
+        self.compare(first, there, back, says)
+        self.compare_subscriptions(back, says)
         case.deliver(mail(self.number()))
         self.work(case.name, OLD, self.draw.randint(1, 6))
         case.look()
@@ -227,11 +228,12 @@ class Trip:
             if lacks or back[its][0] != validity or back[its][1] < following:
                 raise Failed(f"{its}: lacks {lacks} of {validity} {following}: {brief(back)[its]}\n{says}")
 
-    def compare_subscriptions(self, says: str) -> None:
-        """Fails unless the mailboxes are subscribed to like the folders."""
+    def compare_subscriptions(self, back: Mapping[str, Folder], says: str) -> None:
+        """Fails unless the mailboxes are subscribed to like the folders. A new folder without new mail has none."""
         user = self.case.name
         now, wanted = (self.server.subscribed(one) for one in (user, f"{user}@after"))
-        if now != sorted(self.old_name(name.decode()).encode() for name in wanted):
+        names = [self.old_name(name.decode()) for name in wanted]
+        if now != sorted(name.encode() for name in names if name in back):
             raise Failed(f"subscribed to {now}, and it was {wanted}: {says}")
 
 
