@@ -178,7 +178,7 @@ def lines_about(maildir: bytes, places: Iterable[bytes]) -> Iterator[tuple[bytes
         origin = None if ledger.sources else origin_in(path)
         # a run was killed that may have placed something; what is only to go back has no file of its own
         batches = (ledger.open.get(ledger.pending(one) or 0) for one in ledger.paths())
-        begun = [one for one in batches if one and set(one.letters) - set(RETURNED)]
+        begun = [one for one in batches if one and set(one.line_words) - set(RETURNED)]
         if begun:
             names = operand(maildir), operand(unspelled(begun[0].path))
             then = run_next(Runs.MIGRATE, *with_dovecot(begun[0].head.words), *names)

@@ -119,7 +119,7 @@ def gone_of(ledger: Ledger, number: int) -> collections.Counter[bytes]:
     there when it was begun, whoever had given them their names, and those that it placed. If it placed all, all had
     one."""
     batch = ledger.open[number]
-    first = len(batch.letters) - (0 if batch.is_placed else batch.head.nowhere)
+    first = len(batch.line_words) - (0 if batch.is_placed else batch.head.nowhere)
     listed = mail_in(ledger.folder) if first else ()
     there = Hashes(before_info(name) for name, _ in listed)
     gone, table, places = array.array("Q"), Table(), array.array("Q")

@@ -58,18 +58,18 @@ class Batch:
     def __init__(self, head: BatchHead) -> None:
         self.head, self.path = head, head.path
         # the words of its lines, and the digests that they have, one after the other
-        self.letters, self.cores, self.bares = bytearray(), bytearray(), bytearray()
+        self.line_words, self.cores, self.bares = bytearray(), bytearray(), bytearray()
         # whether each of its messages has had a file
         self.is_placed = False
 
     @property
     def is_whole(self) -> bool:
         """Whether it has all of its lines. Before that nothing of it is placed."""
-        return len(self.letters) == self.head.lines
+        return len(self.line_words) == self.head.lines
 
     def take(self, words: bytes, cores: bytes, bares: bytes) -> None:
         """Takes lines by their words and digests, one after the other."""
-        self.letters += words
+        self.line_words += words
         self.cores += cores
         self.bares += bares
 
@@ -95,15 +95,15 @@ class Source:
         """Takes a batch that has ended."""
         self.words, self.key, self.inode = batch.head.words, batch.head.key, batch.head.inode
         self.back += batch.head.back
-        if not self.lost and LOST not in batch.letters:
+        if not self.lost and LOST not in batch.line_words:
             self.cores += batch.cores
             self.bares += batch.bares
             # the mailbox has them now
             batch.cores, batch.bares = bytearray(), bytearray()
             return
-        for at, letter in enumerate(batch.letters):
+        for at, word in enumerate(batch.line_words):
             core, bare = digest_at(batch.cores, at), digest_at(batch.bares, at)
-            if letter == LOST[0]:
+            if word == LOST[0]:
                 self.lost[core] += 1
                 self.forms[core].append(bare)
             elif core in self.lost:
@@ -476,8 +476,8 @@ class Ledger(Told):
 def count_in(ledger: Ledger, path: str) -> int:
     """How many messages a mailbox had when it was read last."""
     count, number = ledger.sources[path].count() if path in ledger.sources else 0, ledger.pending(path)
-    letters = b"" if number is None else ledger.open[number].letters
-    return count + len(letters) - 2 * letters.count(LOST)
+    words = b"" if number is None else ledger.open[number].line_words
+    return count + len(words) - 2 * words.count(LOST)
 
 
 def has_failed(ledger: Ledger, *paths: str) -> bool:
