@@ -96,8 +96,8 @@ REASONS = by_word(Reason)
 SETTLED = {Reason.LOCKED: task(Todo.WAIT), Reason.CHANGED: task(Todo.STOP_WRITER)}
 
 
-# errors of a disk that is full, is only read, or fails
-OF_DISKS = errno.ENOSPC, errno.EDQUOT, errno.EROFS, errno.EIO
+# errors of a disk that is full, and of one that is only read or fails
+FULL, FAILING = (errno.ENOSPC, errno.EDQUOT), (errno.EROFS, errno.EIO)
 
 
 class Status:
@@ -144,6 +144,11 @@ class Left(Fault):
     most: Optional[int] = None
 
 
+def reason_of(error: OSError, otherwise: Phrase) -> Phrase:
+    """Why something is left after an error of the system: nothing else is wrong if the disk is full or fails."""
+    return Reason.NO_ROOM if error.errno in FULL else Reason.ERROR if error.errno in FAILING else otherwise
+
+
 def fault_of(error: Union[Fault, OSError], path: bytes) -> Fault:
     """The fault that came up with the file at a path. An error of the system names its own place, if that is another
     one."""
@@ -159,8 +164,8 @@ def fault_of(error: Union[Fault, OSError], path: bytes) -> Fault:
         may_list = is_absent and is_surely(is_folder, above or b".")
         then = run_next(Runs.LIST if may_list else Runs.LIST_ITSELF, operand(above or b"."))
     if place != path:
-        return Fault(why, Reason.ERROR, then, place=place)
-    return Left(why, Reason.MISSING if is_absent else Reason.ERROR, then)
+        return Fault(why, reason_of(error, Reason.ERROR), then, place=place)
+    return Left(why, reason_of(error, Reason.MISSING if is_absent else Reason.ERROR), then)
 
 
 def complain_of(error: Union[Fault, OSError], path: bytes = b"") -> None:
@@ -176,6 +181,5 @@ def naming(path: bytes, reason: Phrase = Reason.ERROR) -> Iterator[None]:
     try:
         yield
     except OSError as error:
-        reason = Reason.ERROR if error.errno in OF_DISKS else reason
         then = fault_of(error, path).next if reason is Reason.ERROR else NOTHING
-        raise Fault(error.strerror, reason, then, place=path) from error
+        raise Fault(error.strerror, reason_of(error, reason), then, place=path) from error

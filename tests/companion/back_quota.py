@@ -113,7 +113,7 @@ def without_inodes(home: Path) -> None:
             copy()
             status, out, err = run([*WORDS, NAMES[0], "m61new"], home)
             equal("status and standard error", (status, err), (1, ""))
-            says = "INBOX -> {0}: messages 1: left (error): {1}/{0}: No space left on device"
+            says = "INBOX -> {0}: messages 1: left (no-room): {1}/{0}: No space left on device"
             rows = sorted(row for row in out.splitlines() if "messages 1" in row)
             equal("the rows", rows, [says.format(name, spool) for name in ("m61new", NAMES[0])])
             equal("what is there", sorted(os.listdir(spool)), sorted(NAMES))

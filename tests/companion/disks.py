@@ -35,7 +35,7 @@ CALLS = {
     "a_sync_of_new": Failing("fsync:error=EIO", "M/new", SYNC_FAILED, SYNC_FAILED),
     # nothing is wrong with the ledger
     "no_room_for_a_line": Failing(
-        "write:error=ENOSPC", f"M/{LEDGER}", f"left (error): M/{LEDGER}: No space left on device"
+        "write:error=ENOSPC", f"M/{LEDGER}", f"left (no-room): M/{LEDGER}: No space left on device"
     ),
     "no_such_sync": Failing("syncfs:error=ENOSYS", "", "done...", "2 mailboxes: 2 done before\n"),
     "no_sync_of_folders": Failing(

@@ -75,5 +75,17 @@ def of_two_at_once(home: Path) -> None:
         equal("how many messages are there", len([*(home / "disk").rglob("new/*")]), 300)
 
 
+def filled_meanwhile(home: Path) -> None:
+    """Others fill the disk once there was room for a mailbox: the same command goes on later."""
+    want_users()
+    mailbox(home / "box", numbered("one", 100))
+    fake(home, f'test -e {home}/filled || cat /dev/zero 2>{home}/filled >{home}/disk/filler; exec "$real" "$@"')
+    with small_disk(home / "disk", "2m"):
+        row = by_json("migrate --now disk/M box", home).row
+        equal(row["says"], row["reason"], "no-room")
+        (home / "disk/filler").unlink()
+        equal("with room", by_json("migrate --now disk/M box", home).status, 0)
+
+
 if __name__ == "__main__":
-    check_all(needs, in_a_closed_folder, of_two_at_once)
+    check_all(needs, in_a_closed_folder, of_two_at_once, filled_meanwhile)

@@ -5,7 +5,6 @@ The file gets its name once it is whole and on the disk. So whatever ends a run,
 end of the mailbox are of it, and takes them back, unless anything else has changed there.
 """
 import contextlib
-import errno
 import hashlib
 import importlib
 import os
@@ -13,7 +12,7 @@ import re
 from collections.abc import Iterator, Sequence
 from typing import NamedTuple, Optional
 
-from ..faults import Fault, Left, Reason
+from ..faults import FULL, Fault, Left, Reason
 from ..maildir.making import GOES_BACK, sync_folder
 from ..mbox.files import Reader, open_regular, write_all
 from ..mbox.mailbox import Mailbox
@@ -35,8 +34,6 @@ LONGEST_FOOT = 1 << 15
 # what another program writes after a message that was torn, and how many bytes are looked at for that
 OTHER_MAIL, MOST_LOOKED_AT = re.compile(rb"(?:\r?\n)?From "), 1 << 16
 HOLE = re.compile(rb"\0+")
-# the errors of a full disk
-FULL = errno.ENOSPC, errno.EDQUOT
 # the flag of the call fallocate by which the size of a file stays
 KEEP_SIZE = 1
 

@@ -4,7 +4,7 @@ import os
 from collections.abc import Iterator, Mapping, Sequence
 from typing import Optional, Union
 
-from ..faults import Fault, Left, Reason
+from ..faults import FULL, Fault, Left, Reason
 from ..ledger.ledger import Ledger
 from ..ledger.record import Record, is_gone, unspelled
 from ..looks import is_file, is_there, may_be
@@ -19,7 +19,7 @@ from ..program import Program, find_program
 from ..remarks import Remark, Says, Sentence
 from ..terminal import first_of, named, operand
 from .appending import Returned, TakesNothing, Way, not_held, nothing_new
-from .journal import FULL, Journal
+from .journal import Journal
 from .mails import Findings, Target, findings_in
 from .places import Keeper, Names, Places
 from .subscriptions import rows_of

@@ -13,7 +13,7 @@ from collections.abc import Callable, Collection, Sequence
 from typing import Generic, NamedTuple, Optional, TypeVar
 
 from .. import ADMIN
-from ..faults import Left, Reason
+from ..faults import FULL, Fault, Left, Reason
 from ..looks import is_folder, is_there, may_be, may_write, upwards
 from ..mbox.files import BLOCK
 from ..nexts import Phrase, Todo, task
@@ -97,7 +97,7 @@ def want_room(need: Need) -> None:
         raise Left(shortage, Reason.NO_ROOM)
 
 
-def what_fails(folder: bytes, size: int) -> Optional[str]:
+def what_fails(folder: bytes, size: int) -> Optional[Fault]:
     """Tries in `tmp` what the program does there with a message of this size. Returns what fails, if anything does."""
     import tempfile
 
@@ -121,7 +121,8 @@ def what_fails(folder: bytes, size: int) -> Optional[str]:
             if not may_write(os.path.join(folder, sub)):
                 raise PermissionError(errno.EACCES, os.strerror(errno.EACCES))
     except OSError as fault:
-        return "could not %s: %s" % (step, why(fault, folder))
+        reason = Reason.NO_ROOM if fault.errno in FULL else Reason.CONVERT_FAILED
+        return Fault("could not %s: %s" % (step, why(fault, folder)), reason)
     finally:
         if path:
             try:

@@ -188,12 +188,13 @@ def explained(failed: Failed, steps: Steps, batch: Optional[int]) -> Left:
     if call > len(LISTINGS) and not nowhere or call in SYNCED and not unlisted:
         return sync_failed(folder, batch)
     size = steps.contents.inventory.sizes[nowhere[0]] if nowhere else 0
-    cause = unlisted or what_fails(folder, size) or (ONCE if WITHOUT_CAUSE.search(says) else None)
+    fails = None if unlisted else what_fails(folder, size)
+    cause = unlisted or fails or (ONCE if WITHOUT_CAUSE.search(says) else None)
     if found:
         does = dict(enumerate(LISTINGS, 1)).get(call, LATER)
         says = "%s, which %s%s" % (says[: found.end()], does, says[found.end() :])
-    counts = "%d of %d messages are there" % (sum(there), len(whole))
-    return Left("; ".join(filter(None, [says, cause, counts])), Reason.CONVERT_FAILED)
+    says = "%s; %d of %d messages are there" % ("%s; %s" % (says, cause) if cause else says, sum(there), len(whole))
+    return Left(says, fails.reason if fails else Reason.CONVERT_FAILED)
 
 
 def date_and_verify(one: Steps, back: int) -> list[Remark]:
