@@ -99,8 +99,8 @@ STORIES: dict[str, list[Step]] = {
     # of one that grew since, nothing but its inode shows it; a first pass looks at bytes alone
     "the_undo_of_a_mailbox_was_killed_that_is_moved_then": [
         *(("a", ONE + TWO), "migrate M a", f"!printf '<\\t%s\\n' $PWD/a >>{LEDGER}; rm $(grep -l one M/new/*)"),
-        *(("c", THREE), "!mv a b", ("migrate --prepare --unread M b", MOVED), "!cat c >>b"),
-        *((words, MOVED) for words in ("migrate --dry-run M b", "migrate --again M b", "migrate M b")),
+        *(("c", THREE), "!mv a b", (f"{FIRST[:-1]}b", MOVED), "!cat c >>b"),
+        *((f"{words} M b", MOVED) for words in ("migrate --dry-run", "migrate --again", "migrate", FIRST[:-4])),
         *("= two", (">", "b: undone: removed 1 message; 1 message already gone"), "="),
         *(("migrate M b", "b: done"), "= one three two", ("back M b", "b: nothing new")),
     ],
