@@ -20,7 +20,7 @@ def sentence(says: str) -> str:
 # what is to be done about each reason why something is left, as docs/LEFT.md has it
 TO_DO = {
     Reason.OTHER: "Read the line",
-    Reason.ERROR: "Make room, raise the quota, or correct the permissions",
+    Reason.ERROR: "Correct the permissions, or what the line names",
     Reason.UNCLEAR: "Look at the line of mail, and run [the right command](#decisions)",
     Reason.LABELS: "Its command. If there is none, migrate the mailbox without `--labels`",
     Reason.OTHER_KIND: "Its command, which [makes a mailbox of it](FORMATS.md#files-of-another-format)",

@@ -2,8 +2,10 @@
 was killed has left in a mailbox, in which others have written since. No byte of others is ever cut, and what is not
 back goes back by the next run."""
 import gzip
+import itertools
 import shutil
 import signal
+import threading
 from collections.abc import Callable
 from pathlib import Path
 from typing import NamedTuple, Optional
@@ -279,17 +281,18 @@ def locks(home: Home) -> None:
     equal("after another run", (home.path / "mail/p-back.lock").exists(), False)
 
 
-def want_left(home: Home, what: str, reason: str, *names: str) -> None:
+def want_left(home: Home, what: str, reason: str, *names: str, status: int = 1) -> None:
     """The way back ends with a fault for this reason, and no mailbox changes."""
     before = {path: path.read_bytes() for path in (home.path / "mail").rglob("*") if path.is_file()}
     ran = home.place.run([*BACK, *(names or ["mail"])])
     after = {path: path.read_bytes() for path in (home.path / "mail").rglob("*") if path.is_file()}
     equal(f"{what}: the mailboxes", after, before)
-    equal(f"{what}: {ran.output}", (ran.status, reason in ran.output), (1, True))
+    equal(f"{what}: {ran.output}", (ran.status, reason in ran.output), (status, True))
 
 
 def nothing_shows_what_is_new(home: Home) -> None:
-    """A ledger that is damaged, a migration or an undo that was interrupted, and what is only prepared."""
+    """A ledger that is damaged, a migration or an undo that was interrupted, what is only prepared, and a folder whose
+    names change all the time."""
     begun(home, NEW)
     with open(home.ledger("a"), "ab") as file:
         file.write(b"nonsense\n")
@@ -302,6 +305,21 @@ def nothing_shows_what_is_new(home: Home) -> None:
     with open(home.ledger("a"), "ab") as file:
         file.write(b"<\t%s\n" % bytes(box))
     want_left(home, "an undo that was interrupted", f"the undo of {box} was interrupted: run it again first")
+    begun(home, NEW)
+    ended, names = threading.Event(), itertools.cycle(["0.M1.host:2,", "0.M1.host:2,S", "0.M1.host:2,F"])
+
+    def flag() -> None:
+        path = home.folder("a") / "new/0.M1.host"
+        while not ended.wait(0.001):
+            path = path.rename(home.folder("a") / "cur" / next(names))
+
+    reader = threading.Thread(target=flag)
+    reader.start()
+    try:
+        want_left(home, "flags that change all the time", "names in it keep changing", status=75)
+    finally:
+        ended.set()
+        reader.join()
     box = begun(home, NEW)
     box.write_bytes(OLD + letters(2))
     fake(home.path.parent, "exit 1")

@@ -209,7 +209,8 @@ def mails_of(maildir: bytes, places: Iterable[bytes], say: Say) -> Iterator[Mail
     for place in places:
         # what was met, by its name and its inode, which may change on a network disk; or by its name and its core
         folder, met = name_of(maildir, place), set[tuple[bytes, object]]()
-        listings = (enumerate(listing, 1) for listing in (listings_of(place) if any(changed_at(place)) else ()))
+        whole = listings_of(place, is_whole=True) if any(changed_at(place)) else ()
+        listings = (enumerate(listing, 1) for listing in whole)
         for number, (name, path) in itertools.chain.from_iterable(listings):
             say("looking at file %d of %s" % (number, folder_shown(folder)))
             try:

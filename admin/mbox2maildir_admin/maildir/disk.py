@@ -21,7 +21,7 @@ from ..progress import length
 from ..remarks import Remark, Says
 from ..signals import INTERRUPTS
 from ..terminal import is_text, named
-from .files import changed_at, paths_of
+from .files import NAMES_CHANGE, changed_at, paths_of
 from .making import SUBFOLDERS, TMP, WITH_MAIL, open_folder, sync_folder
 
 # the beginning of the names of files that are made to see what fails, and of copies until they are complete
@@ -142,7 +142,7 @@ def why_not_listed(folder: bytes) -> Optional[str]:
         before = changed_at(folder)
         time.sleep(PAUSE)
         if changed_at(folder) != before:
-            return "names in it keep changing"
+            return NAMES_CHANGE
     except OSError as fault:
         return "could not list it: %s" % fault.strerror
     try:

@@ -8,15 +8,17 @@ import time
 from collections.abc import Callable, Container, Iterator
 from typing import Optional
 
-from ..faults import Fault
+from ..faults import Fault, Left, Reason
 from ..looks import state_at
 from ..mbox.core import forms_of
 from ..mbox.files import BLOCK, REGULAR, open_file
+from ..nexts import Todo, task
 from .making import WITH_MAIL
 
 # how often a Maildir is listed at most, and for how many seconds the clock of a file system may stand still
 PASSES = 5
 CLOCK_TICK = 0.1
+NAMES_CHANGE = "names in it keep changing"
 
 # what comes before the letters of flags in the name of a file
 INFO = b":2,"
@@ -65,9 +67,10 @@ def letters_of(name: bytes) -> str:
     return name.partition(INFO)[2].decode("latin-1")
 
 
-def listings_of(folder: bytes) -> Iterator[Iterator[Named]]:
+def listings_of(folder: bytes, is_whole: bool = False) -> Iterator[Iterator[Named]]:
     """Lists the mail of a folder, and lists it again if a mail program renames files meanwhile, which a listing may
-    miss. Raises FileNotFoundError if it has neither `new` nor `cur`."""
+    miss. Raises FileNotFoundError if it has neither `new` nor `cur`, and Left if nothing is to be missed and names
+    still change in the end."""
     for _ in range(PASSES):
         began, before = time.time(), changed_at(folder)
         if not any(before):
@@ -76,6 +79,10 @@ def listings_of(folder: bytes) -> Iterator[Iterator[Named]]:
         # the clock of a file system has ticks
         if changed_at(folder) == before and max(before) < began - CLOCK_TICK:
             return
+        if is_whole:
+            time.sleep(CLOCK_TICK)
+    if is_whole:
+        raise Left(NAMES_CHANGE, Reason.CHANGED, task(Todo.STOP_READERS), place=folder)
 
 
 def changed_at(folder: bytes) -> list[float]:
