@@ -76,6 +76,11 @@ STORIES: dict[str, list[Step]] = {
         "!rm $(grep -l 'Subject: two' M/new/*)",
         ("verify M a", "a: not whole: in another form 1; nowhere 1"),
     ],
+    # it was gone from the mailbox for a while, and somebody deleted it meanwhile
+    "deleted_and_in_it_again": [
+        *(("a", ALL), "migrate M a", ("a", ONE + TWO), "migrate M a", LOSES, ("a", ALL)),
+        *(("migrate M a", f"a: done: it grew by 1 message; {BACK('1 message')}"), "= one three two"),
+    ],
     # what was deleted is there again if another mailbox has it in another form, and that is said
     "deleted_and_brought_in_another_form": [
         *(("a", A + b"\nhello\n>From the shed.\n\n"), "migrate M a", "!rm M/new/*", ("b", OF_MUTT)),

@@ -550,6 +550,9 @@ class Transfer:
         others = sum(one.messages for one in self.known.unknown if one.path not in self.known.names)
         back, ledger = min(others, match.count(Stand.NOWHERE)) + match.gone_in_other_form, self.ledger
         gone = gone_before(ledger)
+        if self.path in ledger.sources:
+            # what the mailbox had lost would be there if it had a file still
+            gone += ledger.sources[self.path].lost
         if gone:
             back += sum((gone & collections.Counter(map(match.inventory.core, match.nowhere))).values())
         number = ledger.pending(self.path)
