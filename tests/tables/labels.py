@@ -673,7 +673,8 @@ def a_folder_that_people_removed(home: Path) -> None:
 
 
 def a_folder_that_people_renamed(home: Path) -> None:
-    """It stays the folder of its label: nothing comes a second time, or comes back."""
+    """It stays the folder of its label, also for a Takeout in another file: nothing comes a second time, or comes back.
+    An undo takes it once."""
     messages = [*RESERVED[:2], ("ten", "Sent,Work/A"), *((word, "Inbox") for word in "abc")]
     takeout(home, messages)
     expect(LABELS, home, 0, None)
@@ -687,6 +688,14 @@ def a_folder_that_people_renamed(home: Path) -> None:
         its = sorted(["two", *(subject for subject, _ in more)])
         wanted = {"": ["a", "b", "c", "one"], ".Play": its, ".Sent": ["ten", "two"]}
         equal("the folders", folders_in(home / "M"), wanted)
+    takeout(home, [*messages, ("eleven", "Work/A"), ("twelve", "Work/A")], "beside")
+    expect("migrate --labels M beside", home, 0, None)
+    equal("with one beside", folders_in(home / "M"), {**wanted, ".Play": ["eleven", "twelve", "two"]})
+    for name in ("t.mbox", "beside"):
+        verdicts = {row["folder"]: row["verdict"] for row in by_json("verify M beside", home).rows}
+        equal("verify", verdicts, {"INBOX": "whole", "Play": "not whole", "Sent": "whole"})
+        expect(f"migrate --undo M {name}", home, 0, None)
+    equal("what an undo leaves", folders_in(home / "M"), {})
 
 
 def two_labels_of_one_folder(home: Path) -> None:

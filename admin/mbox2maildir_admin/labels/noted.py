@@ -5,15 +5,12 @@ import itertools
 from typing import NamedTuple, Optional
 
 from ..faults import Fault
-from ..ledger.history import About, History, Note, RecordLine
+from ..ledger.history import UNLABELLED, About, History, Note, RecordLine
 from ..ledger.record import Record, is_gone, unspelled
 from ..maildir.folders import INBOX
 from ..mbox.mailbox import Mailbox
 from ..terminal import bytes_of, text_of
 from .choosing import GIVES, Choosing
-
-# the words of a mailbox without such folders
-NOTHING = "nothing"
 
 
 class Noted(NamedTuple):
@@ -53,7 +50,7 @@ def encoded(name: bytes) -> str:
 def line_of(record: History, mailbox: Mailbox) -> Optional[RecordLine]:
     """The line about an open mailbox, which may have been moved, that names the folders of its labels; None if it went
     into none."""
-    lines = {path: line for path, line in record.labelled().items() if line.words != NOTHING}
+    lines = record.labelled()
     here = (lines[name] for name in (record.names_of(mailbox.path) if lines else ()) if name in lines)
     gone = (one for one in lines.values() if one.about.size == mailbox.size and one.about[1:] == mailbox.key())
     return next(itertools.chain(here, (one for one in gone if is_gone(one.path))), None)
@@ -71,7 +68,7 @@ def note(record: Record, mailbox: Mailbox, noted: Noted, messages: int) -> None:
 
 def note_nothing(record: Record, line: RecordLine) -> None:
     """Notes that the mailbox of a line has no folders any more."""
-    record.add(Note.LABELS, line.about, line.messages, unspelled(line.path), NOTHING)
+    record.add(Note.LABELS, line.about, line.messages, unspelled(line.path), UNLABELLED)
 
 
 def has_labels(root: bytes, path: bytes) -> bool:

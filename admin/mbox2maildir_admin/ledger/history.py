@@ -7,6 +7,7 @@ its folder's ledger, with the ledger's size and the number of the mailbox's last
 import collections
 import enum
 import functools
+import itertools
 import os
 from collections.abc import Container, Iterable, Iterator, Sequence
 from typing import NamedTuple, Optional, Union
@@ -19,6 +20,8 @@ from ..terminal import shown, spelled
 from ..units import Size
 
 TIME = "%Y-%m-%dT%H:%M:%SZ"
+# the words of a mailbox that has no folders by its labels any more
+UNLABELLED = "nothing"
 LINE = pattern(
     rb"([a-z-]+)\t([^\t]+)\t(\d{1,19})\t([0-9a-f]{64})\t(\d{1,19})\t"
     rb"([12]\d{3}-(?:0[1-9]|1[0-2])-\d\dT\d\d:\d\d:\d\dZ)\t([^\t]+)"
@@ -228,11 +231,16 @@ class History:
         return self._places.get(name, ())
 
     def name_now(self, folder: bytes, path: bytes) -> bytes:
-        """The name that a folder has now which was named for the mailbox of a path. Raises OSError if the path can't be
-        looked at."""
+        """The name that a folder has now which was named for the mailbox of a path. A label has the folder that an
+        earlier Takeout filled, unless there is a newer one of its name. Raises OSError if the path can't be looked
+        at."""
         paths = self.names_of(path)
-        several = (folder, *(self._names[folder, one] for one in paths if (folder, one) in self._names))
-        return next((one for one in several if self.last_of(one, paths)), folder)
+        takeouts = dict.fromkeys(line.path for line in self.notes(Note.LABELS, INBOX))
+        others = takeouts if any(one in self.labelled() for one in paths) else {}
+        several = [self._names[folder, one] for one in (*paths, *others) if (folder, one) in self._names]
+        its = (one for one in (folder, *several) if self.last_of(one, paths))
+        theirs = (one for one in several if folder not in self.numbers and self.last_of(one, others))
+        return next(itertools.chain(its, theirs), folder)
 
     def found_of(self, path: bytes) -> list[bytes]:
         """The folders whose ledgers have a mailbox, if no other line names them. Raises OSError if the path can't be
@@ -295,7 +303,8 @@ class History:
 
     def labelled(self) -> dict[str, RecordLine]:
         """The last lines that name the folders of mailboxes by their labels, by the paths of these mailboxes."""
-        return {line.path: line for line in self.notes(Note.LABELS, INBOX)}
+        lines = {line.path: line for line in self.notes(Note.LABELS, INBOX)}
+        return {path: line for path, line in lines.items() if line.words != UNLABELLED}
 
 
 @functools.lru_cache(maxsize=1 << 10)
