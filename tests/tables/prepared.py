@@ -420,6 +420,12 @@ STORIES: dict[str, list[Step]] = {
         f"= {ALL_TEN} c/two .c+",
         *(("migrate M older", "older/c: done: 1 prepared before"), f"= {ALL_TEN} c/two"),
     ],
+    "another_mailbox_with_dovecot": [
+        *(("a", ONE), "migrate --prepare --unread --dovecot --folder x M a", ("b", TWO)),
+        ("migrate M b", f"a: {NOT_MET}\nb: done"),
+        '!eval "$(mbox2maildir-admin migrate --now M b | grep -e migrate | grep -v -e --undo)"',
+        "= two x/one",
+    ],
     "a_tree_behind_a_link": [
         *((f"disk/old/{number}", ONE) for number in range(10)),
         *("!ln -s disk link", f"{FIRST_OF_TREE[:-3]}link/old", ("disk/old/3", b"milk\n")),

@@ -402,11 +402,13 @@ def row_unchanged(record: Record, options: Options, path: bytes, name: bytes, sa
 
 
 class PreparedBefore(NamedTuple):
-    """A folder that was prepared before a run: its name, the path of its mailbox then, and that of its tree."""
+    """A folder that was prepared before a run: its name, the path of its mailbox then, and that of its tree, and
+    whether it was prepared with --dovecot."""
 
     name: bytes
     path: str
     tree: str
+    dovecot: bool
 
     def path_in(self, tree: Optional[bytes]) -> bytes:
         """The path of the mailbox, in the tree as it is named now, if that is known."""
@@ -425,7 +427,8 @@ class Leftovers:
         for folder in folders_in(self.maildir):
             origin = origin_in(folder) if has_list(folder) else None
             if origin:
-                self.listed.append(PreparedBefore(name_of(self.maildir, folder), origin.path, origin.tree))
+                dovecot = Reading.of_words(origin.words).stripped
+                self.listed.append(PreparedBefore(name_of(self.maildir, folder), origin.path, origin.tree, dovecot))
         # the first pass may have been killed before the record had it
         record.has_prepared = record.has_prepared or any(map(has_list, folders_in(self.maildir)))
 
@@ -475,7 +478,7 @@ class Leftovers:
         """The row of a folder that stays only prepared, whose mailbox is to be at this place: that is migrated, unless
         it went into another folder, or, if it is not there, brought back first. What is not wanted any more is
         undone."""
-        path, options = unspelled(one.path), self.options.of_next()
+        path, options = unspelled(one.path), self.options.of_next()._replace(dovecot=one.dovecot)
         folder = [*([] if one.name == INBOX else words_of(one.name)), operand(self.maildir)]
         then = task(Todo.BRING_BACK, text_of(place))
         if went_elsewhere:
