@@ -21,6 +21,7 @@ PLACED = ("M/cur/1700000000.1.mbox:2,S", ONE.split(b"\n", 1)[1][:-1])
 RENAMES = "!cd M; n=0; for a in new/* cur/*; do test ! -e $a || mv $a cur/17000.$((n += 1)).host:2,S; done"
 LOSES = "!rm $(grep -l 'Subject: three' M/new/*)"
 BACK = "when its mail was placed, up to {} that had been deleted or moved came back".format
+WENT = "2 messages of it went into b too, from m/b"
 CAME_BACK = "a: done: ...up to {} that had been deleted or moved came back".format
 # lines `From ` within messages that their lengths end, and one that nobody has quoted
 SHED = [with_length(head, b"hello\nFrom the shed.\n") + b"\n" for head in (A, B, C)]
@@ -72,9 +73,20 @@ STORIES: dict[str, list[Step]] = {
         *(("a", A + b"\nhello\n>From the shed.\n\n" + TWO), "migrate M a", "= one two"),
         *(("a", OF_MUTT), ("migrate M a", "a: done before")),
         ("verify M a", "a: whole: in another form 1; without fields 1"),
-        "!touch M/new/*; mbox2maildir-admin dates M a && test -z \"$(find M/new -type f -newermt 2025-03-04)\"",
+        '!touch M/new/*; mbox2maildir-admin dates M a && test -z "$(find M/new -type f -newermt 2025-03-04)"',
         "!rm $(grep -l 'Subject: two' M/new/*)",
         ("verify M a", "a: not whole: in another form 1; nowhere 1"),
+    ],
+    # a program puts the mail of one mailbox into another, and removes the first; somebody has deleted some of it
+    "two_are_joined": [
+        *(("m/a", ONE), ("m/b", TWO + THREE), "migrate M m", "!rm $(grep -l 'Subject: two' M/.b/new/*)"),
+        *("!cat m/b >>m/a; rm m/b", ("migrate M m", f"m/a: done: it grew by 2 messages; {WENT}; {BACK('1 message')}")),
+        *("= a/one a/three a/two b/three", ("m/a", ONE + TWO + THREE + FOUR)),
+        ("migrate M m", f"m/a: done: it grew by 1 message; {BACK('1 message')}"),
+    ],
+    "it_is_renamed_in_its_tree": [
+        *(("m/b", TWO + THREE), "migrate M m", "!rm $(grep -l 'Subject: two' M/.b/new/*)", "!mv m/b m/c"),
+        *(("migrate M m", f"m/c: done: {WENT}; {BACK('1 message')}"), (">", "m/c: undone: ..."), "= c/three c/two"),
     ],
     # it was gone from the mailbox for a while, and somebody deleted it meanwhile
     "deleted_and_in_it_again": [

@@ -22,7 +22,7 @@ from ..mbox.bases import BASE, FIRST, Table, base_in, before_info, is_own
 from ..mbox.core import SHORT
 from ..remarks import Remark, Says
 from .ledger import Ledger
-from .lines import FOREIGN, LOST, digest_at, pieces_in
+from .lines import FOREIGN, LOST, State, digest_at, pieces_in
 from .match import Hashes, Match
 
 # the most by which the times differ that the kernel gives a file and its folder in one rename, in nanoseconds
@@ -91,6 +91,13 @@ def back_in(ledger: Ledger) -> list[Remark]:
     """What came back into a folder before its mailboxes were done, though a message that came back in several runs is
     one. Each later run says it again, since one that was killed may have noted them as done and not said it."""
     return Says.CAME_BACK.of_any(sum(min(one.back, len(one.cores) // SHORT) for one in ledger.sources.values()))
+
+
+def gone_there(ledger: Ledger, path: str) -> collections.Counter[bytes]:
+    """The cores of messages that a mailbox has by the ledger of a folder, and whose files are not there."""
+    there = Hashes(before_info(name) for name, _ in mail_in(ledger.folder))
+    lines = (line for line in ledger.message_lines(None) if line[:2] == (path, State.HELD))
+    return collections.Counter(line.message.core for line in lines if line.message.name not in there)
 
 
 def left_by_killed(match: Match) -> int:

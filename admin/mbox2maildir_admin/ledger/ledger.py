@@ -309,11 +309,14 @@ class Ledger(Told):
         """The paths of the mailboxes that brought something, or may have."""
         return list(dict.fromkeys([*self.sources, *(one.path for one in self.open.values() if one.is_whole)]))
 
-    def is_in(self, path: str, cores: collections.Counter[bytes]) -> bool:
-        """Whether these are all cores, and perhaps more, that the mailbox of a path had when it was read last, or that
-        a killed run was to bring."""
+    def has(self, path: str) -> collections.Counter[bytes]:
+        """How often the mailbox of a path had each core when it was read last, or a killed run was to bring it."""
         source, batch = self.sources.get(path), self.open.get(self.pending(path) or 0)
-        has = (source.has() if source else collections.Counter()) | counted_in(batch.cores if batch else bytearray())
+        return (source.has() if source else collections.Counter()) | counted_in(batch.cores if batch else bytearray())
+
+    def is_in(self, path: str, cores: collections.Counter[bytes]) -> bool:
+        """Whether these are all cores, and perhaps more, that the mailbox of a path has."""
+        has = self.has(path)
         return bool(has) and not has - cores
 
     def most(self, path: str, wanted: Container[bytes]) -> collections.Counter[bytes]:

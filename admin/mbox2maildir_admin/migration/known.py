@@ -1,10 +1,10 @@
 """A mailbox that is open, and what the record of a Maildir and the ledger of a folder know of it before it is read."""
 import collections
-import itertools
 import os
-from collections.abc import Container
+from collections.abc import Container, Iterator, Sequence
 from typing import NamedTuple, Optional
 
+from ..ledger.gone import gone_there
 from ..ledger.history import About, Event, Note, RecordLine
 from ..ledger.ledger import Ledger, count_in
 from ..ledger.match import cores_of
@@ -49,9 +49,13 @@ class Opened(NamedTuple):
         return self.mailbox.has_changed() or text.has_changed()
 
 
-# a line of the index by which a mailbox went into another folder, and whether the mailbox is there twice: it was moved,
-# or has its path, and is no other one with its bytes
-Elsewhere = tuple[RecordLine, bool]
+class Elsewhere(NamedTuple):
+    """A line of the index by which a mailbox went into another folder; whether the mailbox is there twice: it was
+    moved, or has its path, and is no other one with its bytes; and the cores of what is gone from there."""
+
+    line: RecordLine
+    is_moved: bool
+    gone: collections.Counter[bytes]
 
 
 class Known:
@@ -113,31 +117,36 @@ class Known:
         line = self.record.index_line(self.opened.name, self.ledger, path) if is_same else None
         return line if line and line.what is Event.DONE else None
 
-    def elsewhere(self, inventory: Inventory) -> list[Elsewhere]:
+    def elsewhere(self, inventory: Inventory, new: Sequence[int]) -> Iterator[Elsewhere]:
         """Where all went, or began to go, before another folder was named for the mailbox; and that mailboxes had which
-        are gone from their paths, if this one has it: it may be one of them, which was moved. Another one may have the
-        path by now of one with the same bytes. A run that was killed could not say this."""
-        if self.by_index or self.path in self.ledger.sources:
-            return []
-        mailbox, cores, found = self.opened.mailbox, None, list[Elsewhere]()
-        for folder in self.record.folders_with(self.names):
-            # as far as the ledger there still has it
-            last = self.record.last_of(folder, self.names) if folder != self.opened.name else None
-            if last and last.path in Ledger(folder_path(self.record.maildir, folder)).paths():
-                found.append((last, True))
-        same = [line for line in self.record.lines_of(mailbox) if is_gone(line.path) or is_replaced(line)]
-        here = os.path.dirname(self.names[0])
-        others = (one for one in self.record.gone(here) if one not in same)
-        for line in itertools.chain(same, others):
-            is_same = line in same
-            # the same bytes may have fewer messages as they are read now
-            if line.about.folder == self.opened.name or not is_same and line.messages > len(inventory):
+        are gone from their paths, if this one has it, and not from before: it may be one of them, which was moved, or
+        got their mail. A run that was killed could not say this."""
+        if self.by_index or not new:
+            return
+        same: list[RecordLine] = []
+        if self.path not in self.ledger.sources:
+            yield from self.went_before()
+            # another one may have the path by now of one with the same bytes
+            lines = self.record.lines_of(self.opened.mailbox)
+            same = [line for line in lines if is_gone(line.path) or is_replaced(line)]
+        # the same bytes may have fewer messages as they are read now
+        gone = self.record.gone(os.path.dirname(self.names[0]))
+        others = [one for one in gone if one not in same and one.messages <= len(inventory)]
+        cores = cores_of(inventory) if others else collections.Counter[bytes]()
+        for line in (one for one in (*same, *others) if one.about.folder != self.opened.name):
+            ledger, is_same = Ledger(folder_path(self.record.maildir, line.about.folder)), line in same
+            if not is_same and not ledger.is_in(line.path, cores):
                 continue
-            ledger = Ledger(folder_path(self.record.maildir, line.about.folder))
-            cores = cores or cores_of(inventory)
-            if is_same or ledger.is_in(line.path, cores):
-                found.append((line, is_gone(line.path) and (is_same or line.path in moved_in(ledger, mailbox))))
-        return found
+            if is_same or any(map(ledger.has(line.path).get, map(inventory.core, new))):
+                is_moved = is_gone(line.path) and (is_same or line.path in moved_in(ledger, self.opened.mailbox))
+                yield Elsewhere(line, is_moved, gone_there(ledger, line.path))
+
+    def went_before(self) -> Iterator[Elsewhere]:
+        """Where all went before another folder was named, as far as the ledgers there still have it."""
+        for folder in (one for one in self.record.folders_with(self.names) if one != self.opened.name):
+            last, ledger = self.record.last_of(folder, self.names), Ledger(folder_path(self.record.maildir, folder))
+            if last and last.path in ledger.paths():
+                yield Elsewhere(last, True, gone_there(ledger, last.path))
 
     def joined(self, given: Container[bytes]) -> list[bytes]:
         """The paths of the mailboxes whose mail the folder has, and that are not gone, if a mailbox of a tree gets its

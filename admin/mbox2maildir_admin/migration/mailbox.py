@@ -51,7 +51,7 @@ from .answers import (
 )
 from .carrying import SYNC_FAILED, carry_out, names_that_may_be_cut
 from .dovecot import DONE_WITHOUT
-from .known import ONE_IN, Known, Opened
+from .known import ONE_IN, Elsewhere, Known, Opened
 from .options import Options
 from .outcomes import Outcome, Row, Verdict, row_left
 from .preparing import (
@@ -377,16 +377,17 @@ class Transfer:
         self.want_not_leaving(self.path)
         match, prepared = self.matched(part, contents, again), None if again else self.prepared
         self.note_answer(part)
-        ends_list = again or prepared is not None
-        back = 0 if again else self.may_come_back(match)
+        # a message of a Takeout may be in many folders
+        elsewhere = [] if self.part else [*known.elsewhere(contents.inventory, match.new)]
+        back = 0 if again else self.may_come_back(match, elsewhere)
+        own = OtherPass(again, again or prepared is not None, back=back)
         if known.path in known.ledger.sources and not match.count_new():
             # what came back in a run that was killed stays, also if the mailbox no longer has it
-            own = OtherPass(again, ends_list, back=back, has_nothing_new=True)
             said = [*remarks_on_lost(match), *Says.CAME_BACK.of_any(back)]
-            steps = Steps.of(known, contents, match, options.extra, own)
+            steps = Steps.of(known, contents, match, options.extra, own._replace(has_nothing_new=True))
             return steps, self.row_before(contents.reading.words(), len(contents.inventory), said)
         origin = origin_now(known, contents, options.names) if prepared and not prepared.origin else None
-        own = OtherPass(again, ends_list, prepared, origin, back, names_that_may_be_cut(known, match))
+        own = own._replace(prepared=prepared, origin=origin, may_be_cut=names_that_may_be_cut(known, match))
         steps = Steps.of(known, contents, match, options.extra, own)
         hindrance = options.extra.hindrance(steps)
         if hindrance:
@@ -394,18 +395,16 @@ class Transfer:
         self.want_room_for(steps)
         if self.prepared:
             said = [*said, *remarks_on_prepared(self.prepared, options, self.opened.mailbox.say)]
-        return steps, self.row_of(part, steps, said)
+        return steps, self.row_of(part, steps, said, elsewhere)
 
-    def row_of(self, part: Part, steps: Steps, said: Sequence[Remark]) -> Row:
+    def row_of(self, part: Part, steps: Steps, said: Sequence[Remark], elsewhere: Sequence[Elsewhere]) -> Row:
         """The row of a mailbox that brings something, or would; with what is to be said of other folders, into which
         mail of it went, and of other mailboxes. What is said of flags and UIDs comes once they are set, but in a
         rehearsal."""
-        # a message of a Takeout may be in many folders
-        elsewhere = [] if self.part else self.known.elsewhere(steps.contents.inventory)
         said = [*said, *remarks_on_match(steps, self.options.dry), *back_in(self.ledger)]
         is_gone = any(one.word == Says.GONE_ELSEWHERE.word for one in said)
         then = self.command(Does.BRINGS_BACK, again=True) if is_gone else NOTHING
-        for line, is_moved in elsewhere:
+        for line, is_moved, _ in elsewhere:
             its = counted(line.messages, "message"), folder_shown(line.about.folder)
             is_other = line.path not in self.known.names
             said.append(
@@ -544,7 +543,7 @@ class Transfer:
         if is_much and match.count_new() >= lost:
             raise Left(EDITED % counted(lost, "message"), Reason.REWRITTEN, self.command(Does.STORES, again=True))
 
-    def may_come_back(self, match: Match) -> int:
+    def may_come_back(self, match: Match, elsewhere: Sequence[Elsewhere]) -> int:
         """How many messages that are nowhere may have been there before, and were deleted."""
         # the ledger may lack what was deleted of other mailboxes that the index counts
         others = sum(one.messages for one in self.known.unknown if one.path not in self.known.names)
@@ -553,6 +552,8 @@ class Transfer:
         if self.path in ledger.sources:
             # what the mailbox had lost would be there if it had a file still
             gone += ledger.sources[self.path].lost
+        for one in elsewhere:
+            gone += one.gone
         if gone:
             back += sum((gone & collections.Counter(map(match.inventory.core, match.nowhere))).values())
         number = ledger.pending(self.path)
