@@ -104,7 +104,7 @@ class Does:
     LABEL_READ = Phrase("label-read", "it says that mail was read, and gives no folder")
     ALL = Phrase("labels-all", "each message goes into all of its folders")
     ONE = Phrase("labels-one", "each message goes into one folder")
-    INTO_INBOX = Phrase("into-inbox", "if this is to be INBOX, run this next")
+    INTO_INBOX = Phrase("into-inbox", "if it is to be INBOX, this migrates it anew, with mail deleted in the Maildir")
     # commands that store what is nowhere, and what comes of that
     STORES = Phrase("stores-rest", "this stores the messages that are nowhere, deleted ones too")
     BRINGS_BACK = Phrase(

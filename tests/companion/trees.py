@@ -363,6 +363,12 @@ def several_inboxes(home: Path) -> None:
     row = by_json(["migrate", "--drop-deleted", "--folder", "imap-example-net/INBOX", "N", other], home).row
     equal("of two folders", run_printed(row.commands[-1], home).status, 0)
     equal("where it is", [subjects(home / "N"), subjects(home / "N/.Work")], [["one"], ["one"]])
+    # of one that was answered about alone, and that has no deleted mail any more, it asks nothing
+    expect(["migrate", "--drop-deleted", "--of", tie, "P", top], home, 0, None)
+    mailbox(home / inbox, marked(b"1", ONE) + b"\n" + marked(b"1", TWO))
+    command = by_json(["migrate", "P", top], home).of(inbox).command
+    equal(command, run_printed(command, home).status, 0)
+    equal("all of it", subjects(home / "P"), ["one", "two"])
 
 
 def what_cannot_be_read(home: Path) -> None:

@@ -227,8 +227,9 @@ def into_inbox(one: Planned, folder: bytes, options: Options, record: Record) ->
     """The command that puts one of several Inboxes, which has this folder, into INBOX instead, as it was answered."""
     noted = record.noting(Note.ANSWERED, folder, record.names_of(one.path))
     answer = Reading.of_words(noted[-1].words).decided if noted else UNDECIDED
-    # the record does not have the numbers of lines, about which a human is asked again
-    decision = UNDECIDED if answer.text or answer.begin else answer
+    # a human is asked again about lines: the record does not have their numbers, and the text may have changed since
+    is_of_lines = answer.text or answer.begin or (answer.of and answer.word)
+    decision = UNDECIDED if is_of_lines else answer._replace(of="")
     options, paths = options.of_next()._replace(decision=decision), [operand(record.maildir), operand(one.path)]
     into = Command.of(Runs.MIGRATE, *options.words(), "--folder", "INBOX", *paths)
     undo = "--undo", *Options(now=options.now).words(), *words_of(folder), *paths
