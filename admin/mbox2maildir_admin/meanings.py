@@ -46,7 +46,10 @@ TO_DO = {
     Reason.MH: "Its command, then move the folder away",
     Reason.LOCKED: sentence(Todo.WAIT.says) + ". A `.lock` file is ignored after 20 minutes",
     Reason.CHANGED: sentence(Todo.STOP_WRITER.says),
-    Reason.NO_FOLDER: "Give it a folder by `--folder NAME`, or run one of its commands",
+    Reason.NO_FOLDER: (
+        "Give it a folder by `--folder NAME`, or run one of its commands. If [two labels have one "
+        "folder](FORMATS.md#a-takeout-of-gmail), remove the link, or leave out one of them"
+    ),
     Reason.NOT_OWN: "Its command. If there is none, name a folder of the user's own, or run `migrate` as the owner",
     Reason.NO_ROOM: "Make room, or raise the quota, and run the same command again",
     Reason.NO_SYNC: (

@@ -260,6 +260,20 @@ def a_language_that_was_found(home: Path) -> None:
         equal("verify", run(f"verify M{number} t.mbox", home).status, 0)
 
 
+def a_language_of_an_earlier_takeout(home: Path) -> None:
+    """One in another file is in that language too if it has the word for Inbox, although it has a label `Inbox`. One
+    that lacks the word is another account's."""
+    takeout(home, [("one", "Posteingang,Ge\u00f6ffnet"), ("two", "Gesendet"), ("three", "Wichtig")])
+    expect("migrate --labels M t.mbox", home, 0, None)
+    takeout(home, [("one", "Posteingang,Ge\u00f6ffnet"), ("two", "Gesendet"), ("four", "Inbox,Wichtig")], "newer")
+    takeout(home, [("five", "Inbox,Wichtig"), ("six", "Sent"), ("seven", "Gesendet")], "other")
+    expect("migrate --labels M newer other", home, 0, None)
+    there = folders_in(home / "M")
+    wanted = {"": ["five", "four", "one"], ".Archive": ["three"], ".Sent": ["six", "two"]}
+    equal("the folders", there, {**wanted, ".Gesendet": ["seven"], ".Wichtig": ["five"]})
+    equal("verify", run("verify M t.mbox newer other", home).status, 0)
+
+
 def flags_by_what_was_said(home: Path) -> None:
     """Flags by Gmail's own labels, and by those of which it was said what they give."""
     for number, (words, labels, flags) in enumerate(SAID):

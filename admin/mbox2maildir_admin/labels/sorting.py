@@ -76,9 +76,9 @@ class LabelFolders(NamedTuple):
 class Sorting:
     """The labels of the messages of a Takeout."""
 
-    def __init__(self, headers: Iterable[bytes], choosing: Choosing, noted: Noted) -> None:
-        """Takes the headers of the messages, what is said of labels, and what an earlier run has noted. Raises
-        LabelsLeft if one has no labels, or if they cannot be read."""
+    def __init__(self, headers: Iterable[bytes], choosing: Choosing, noted: Noted, earlier: Iterable[str] = ()) -> None:
+        """Takes the headers of the messages, what is said of labels, what an earlier run has noted, and the languages
+        of earlier mailboxes. Raises LabelsLeft if one has no labels, or if they cannot be read."""
         self.choosing, self.noted, self.before = choosing, noted, noted.folders
         self.messages: list[tuple[str, ...]] = []
         # how many messages have each label
@@ -95,7 +95,7 @@ class Sorting:
                 known[field] = labels
             self.messages.append(known[field])
             self.counts.update(known[field])
-        found = language_of(known.values())
+        found = language_of(known.values(), earlier)
         self.languages = *noted.languages, *(() if found in ("Inbox", *noted.languages) else (found,))
         self.names = own_names(self.languages)
         self.roles = self.roles_by(choosing)

@@ -229,7 +229,8 @@ class Takeouts(Migration):
             if len(inventory) == 0:
                 raise LabelsLeft(NO_MESSAGE)
             headers = headers_at(text.mailbox, inventory.offsets[:-1])
-            sorting = Sorting(headers, choosing, noted)
+            earlier = (language for one in self.record.labelled().values() for language in Noted.of(one).languages)
+            sorting = Sorting(headers, choosing, noted, earlier)
             self.labels.update(sorting.counts)
             if noted.folders and sorting.contradicts(noted.choosing):
                 raise self.said_otherwise(opened, noted.choosing)
