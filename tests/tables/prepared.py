@@ -87,6 +87,19 @@ STORIES: dict[str, list[Step]] = {
         (LAST, "a: done: 1 prepared before; kept 1 file that somebody edited"),
         "= one two",
     ],
+    "what_somebody_edited_and_undone": [
+        *(("a", ONE + TWO), FIRST, "!echo more >>$(grep -l 'Subject: one' M/new/*)", ("a", TWO), LAST),
+        *(("migrate --undo M a", "a: undone: removed 1 message"), "= one"),
+    ],
+    "what_stays_by_again_and_is_undone": [
+        *(("a", ONE + TWO), FIRST, ("a", TWO + THREE), "migrate --again M a", "= one three two"),
+        *(("migrate --undo M a", "a: undone: removed 1 message..."), "= one two"),
+        *("migrate M a", "= one three two", "migrate --undo M a", "= one two"),
+    ],
+    "what_stays_of_an_emptied_mailbox_and_another_is_undone": [
+        *(("a", ONE), FIRST, ("a", b""), "migrate --again M a", ("b", TWO), "migrate --folder INBOX M b", "= one two"),
+        *(("migrate --undo M b", "b: undone: removed 1 message"), "= one"),
+    ],
     "what_others_delivered": [
         *(("a", ONE + TWO), FIRST, DELIVERS),
         (LAST, "a: done: 1 prepared before, 1 message removed; 1 message there already, by no mailbox; 1 message ..."),

@@ -15,7 +15,7 @@ import os
 from collections.abc import Container, Iterator, Sequence
 
 from ..faults import Fault
-from ..maildir.files import mail_in, names_in
+from ..maildir.files import digest_of, mail_in, names_in
 from ..maildir.folders import folders_in
 from ..maildir.making import SUBFOLDERS, TMP
 from ..mbox.bases import BASE, FIRST, Table, base_in, before_info, is_own
@@ -187,11 +187,14 @@ def unexplained(root: bytes, match: Match) -> set[bytes]:
 
 def without_line(root: bytes, folder: bytes) -> set[bytes]:
     """The names of this program's that files of a folder have, and no line of a ledger of the Maildir, whatever became
-    of its batch. So the ledger of the folder is older than these files."""
+    of its batch. So the ledger of the folder is older than these files. What somebody edited may have been only
+    prepared, which no line says."""
     names = set(filter(is_own, (before_info(name) for name, _ in mail_in(folder))))
     for path in (folder, *folders_in(root)):
         # what cannot be read explains nothing
         with contextlib.suppress(Fault, OSError):
             for _, several in pieces_in(path) if names else ():
                 names.difference_update(several.names if several else ())
-    return names
+    table = Table.of(filter(None, map(base_in, names)))
+    there = ((table.own_place(name), path) for name, path in (mail_in(folder) if names else ()))
+    return {table.name(at) for at, path in there if at is not None and digest_of(path)[0] == table.digest(at)}

@@ -321,6 +321,8 @@ class Transfer:
             steps, row = (self.first_steps if self.options.prepare else self.other_steps)(part, contents, again, said)
             if self.options.dry:
                 return Outcome(row)
+            if again and self.preparation:
+                self.preparation.note_kept()
             ended = carry_out(steps, row, self.program)
             return ended._replace(row=ended.row._replace(spent=row.spent and self.spent()))
 
@@ -348,6 +350,8 @@ class Transfer:
         if preparation:
             if has_list:
                 said += Says.KEPT_EDITED.of_any(preparation.prepared.remove_unwanted())
+            elif again:
+                preparation.note_kept()
             preparation.forget()
         self.record.make(self.opened.make_folder)
         note_empty(self.known, contents.reading, match.lost_lines)

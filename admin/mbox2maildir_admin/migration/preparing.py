@@ -39,7 +39,7 @@ from ..faults import Fault, Left, Reason
 from ..flags.renaming import sync_names
 from ..ledger.history import Event, Note, names_of
 from ..ledger.ledger import Ledger, has_failed
-from ..ledger.lines import PLACED
+from ..ledger.lines import PLACED, BatchHead, Brought
 from ..ledger.prepared import (
     ASIDE,
     NEXT_LIST,
@@ -60,6 +60,7 @@ from ..maildir.files import digest_of, mail_in, names_in
 from ..maildir.folders import INBOX, folder_path, folders_in, name_of, words_of
 from ..maildir.making import LEDGER, MARK, PREPARED, SUBFOLDERS, WITH_MAIL, sync_folder
 from ..mbox.bases import base_in, before_info, own_base_in
+from ..mbox.core import SHORT
 from ..mbox.dates import seconds_of
 from ..mbox.inventory import NO_DATE
 from ..nexts import NOTHING, Answer, Does, Next, Runs, Todo, run_next, task
@@ -197,6 +198,17 @@ class Preparation:
         if is_unused:
             remove_aside(aside)
             self.ledger.forget_all()
+
+    def note_kept(self) -> None:
+        """Notes the files that stay as what an undo has kept: otherwise the ledger would be older than its folder."""
+        table, origin, path = self.prepared.table, self.prepared.origin, spelled(os.path.join(self.folder, PREPARED))
+        places = [place for place, is_there in enumerate(self.prepared.files) if is_there]
+        if places and origin:
+            head = BatchHead.without_files(len(places), origin.key, origin.words, path, 0)
+            cores = (table.digest(place)[:SHORT] for place in places)
+            its = (Brought(PLACED, table.name(place), core, core) for place, core in zip(places, cores))
+            self.ledger.begin(head, its)
+            self.ledger.undo(path)
 
     def forget(self) -> None:
         """Notes that nothing is prepared there any more. Without its list the folder would count as lost."""
