@@ -87,6 +87,7 @@ STORIES: dict[str, list[Step]] = {
     "it_is_renamed_in_its_tree": [
         *(("m/b", TWO + THREE), "migrate M m", "!rm $(grep -l 'Subject: two' M/.b/new/*)", "!mv m/b m/c"),
         *(("migrate M m", f"m/c: done: {WENT}; {BACK('1 message')}"), (">", "m/c: undone: ..."), "= c/three c/two"),
+        *("!rm -r M/.c; mv m/c m/d", ("migrate M m", f"m/d: done: {BACK('2 messages')}"), "= d/three d/two"),
     ],
     # it was gone from the mailbox for a while, and somebody deleted it meanwhile
     "deleted_and_in_it_again": [

@@ -438,6 +438,7 @@ BY_WORD, BY_RECORD = "no mail: by --no-mail", "no mail: by migrate --no-mail"
 WORK, SENT = "export/Work.mbox/mbox", "export/Sent.Messages.mbox/mbox"
 OF_TWO = "left (no-folder): another mailbox goes into twice too"
 DELETED = TWO.replace(b"\n\n", b"\nX-Mozilla-Status: 0009\n\n", 1)
+CAME_BACK = "box: done: when its mail was placed, up to 2 messages that had been deleted or moved came back"
 UNDO_IN_A = "migrate --undo --folder A M box"
 STORIES: dict[str, list[Step]] = {
     # where the folders are that a tree would name otherwise, and what somebody else has put in the place of one
@@ -605,7 +606,7 @@ STORIES: dict[str, list[Step]] = {
         *(("box", ONE + TWO), "migrate --folder A M box"),
         ("migrate --folder B M box", "box: done: 2 messages of it went into A too"),
         *(("migrate --folder B M box", "box: done before"), f"!mbox2maildir-admin {UNDO_IN_A}", "= B/one B/two"),
-        *("!rm -r M/.B", ("box", ONE + TWO + THREE), ("migrate --folder C M box", "box: done")),
+        *("!rm -r M/.B", ("box", ONE + TWO + THREE), ("migrate --folder C M box", CAME_BACK)),
     ],
     # what is printed undoes it where it was, also in INBOX
     "out_of_inbox": [

@@ -9,7 +9,7 @@ from ..ledger.history import About, Event, Note, RecordLine
 from ..ledger.ledger import Ledger, count_in
 from ..ledger.match import cores_of
 from ..ledger.record import Record, is_gone, unspelled
-from ..looks import is_there, state_at
+from ..looks import is_folder, is_there, state_at
 from ..maildir.folders import INBOX, folder_path
 from ..maildir.making import SyncNames, make_maildir
 from ..mbox.inventory import Inventory
@@ -50,10 +50,12 @@ class Opened(NamedTuple):
 
 
 class Elsewhere(NamedTuple):
-    """A line of the index by which a mailbox went into another folder; whether the mailbox is there twice: it was
-    moved, or has its path, and is no other one with its bytes; and the cores of what is gone from there."""
+    """A line of the index by which a mailbox went into another folder; whether that is still there; whether the mailbox
+    is there twice: it was moved, or has its path, and is no other one with its bytes; and the cores of what is gone
+    from the folder."""
 
     line: RecordLine
+    has_folder: bool
     is_moved: bool
     gone: collections.Counter[bytes]
 
@@ -121,32 +123,33 @@ class Known:
         """Where all went, or began to go, before another folder was named for the mailbox; and that mailboxes had which
         are gone from their paths, if this one has it, and not from before: it may be one of them, which was moved, or
         got their mail. A run that was killed could not say this."""
-        if self.by_index or not new:
-            return
-        same: list[RecordLine] = []
-        if self.path not in self.ledger.sources:
-            yield from self.went_before()
-            # another one may have the path by now of one with the same bytes
-            lines = self.record.lines_of(self.opened.mailbox)
-            same = [line for line in lines if is_gone(line.path) or is_replaced(line)]
-        # the same bytes may have fewer messages as they are read now
-        gone = self.record.gone(os.path.dirname(self.names[0]))
-        others = [one for one in gone if one not in same and one.messages <= len(inventory)]
-        cores = cores_of(inventory) if others else collections.Counter[bytes]()
-        for line in (one for one in (*same, *others) if one.about.folder != self.opened.name):
-            ledger, is_same = Ledger(folder_path(self.record.maildir, line.about.folder)), line in same
-            if not is_same and not ledger.is_in(line.path, cores):
+        same, others = self.lines_elsewhere(len(inventory)) if new and not self.by_index else ([], [])
+        cores = cores_of(inventory) if same or others else collections.Counter[bytes]()
+        for line in (*same, *others):
+            ledger = Ledger(folder_path(self.record.maildir, line.about.folder))
+            has, is_known = ledger.has(line.path), line.path in ledger.paths()
+            if line in others and (
+                not ledger.is_in(line.path, cores) or not any(has[inventory.core(at)] for at in new)
+            ):
                 continue
-            if is_same or any(map(ledger.has(line.path).get, map(inventory.core, new))):
-                is_moved = is_gone(line.path) and (is_same or line.path in moved_in(ledger, self.opened.mailbox))
-                yield Elsewhere(line, is_moved, gone_there(ledger, line.path))
+            is_same = line in same or line.path in moved_in(ledger, self.opened.mailbox)
+            is_moved = is_known and (line.path in self.names or is_same and is_gone(line.path))
+            has_folder = is_known or is_folder(ledger.folder) and not ledger.number
+            yield Elsewhere(line, has_folder, is_moved, gone_there(ledger, line.path))
 
-    def went_before(self) -> Iterator[Elsewhere]:
-        """Where all went before another folder was named, as far as the ledgers there still have it."""
-        for folder in (one for one in self.record.folders_with(self.names) if one != self.opened.name):
-            last, ledger = self.record.last_of(folder, self.names), Ledger(folder_path(self.record.maildir, folder))
-            if last and last.path in ledger.paths():
-                yield Elsewhere(last, True, gone_there(ledger, last.path))
+    def lines_elsewhere(self, most: int) -> tuple[list[RecordLine], list[RecordLine]]:
+        """The lines of the index about other folders: into which the mailbox went, if it is new, or one with the same
+        bytes, whose path another one may have by now; and into which others went, of so many messages at most, that are
+        gone."""
+        record, same = self.record, list[RecordLine]()
+        if self.path not in self.ledger.sources:
+            own = (record.last_of(folder, self.names) for folder in record.folders_with(self.names))
+            lines = record.lines_of(self.opened.mailbox)
+            same = [*filter(None, own), *(line for line in lines if is_gone(line.path) or is_replaced(line))]
+        # the same bytes may have fewer messages as they are read now
+        gone = (line for line in record.gone(os.path.dirname(self.names[0])) if line.messages <= most)
+        others = [line for line in gone if line not in same and line.about.folder != self.opened.name]
+        return [line for line in same if line.about.folder != self.opened.name], others
 
     def joined(self, given: Container[bytes]) -> list[bytes]:
         """The paths of the mailboxes whose mail the folder has, and that are not gone, if a mailbox of a tree gets its

@@ -408,7 +408,7 @@ class Transfer:
         said = [*said, *remarks_on_match(steps, self.options.dry), *back_in(self.ledger)]
         is_gone = any(one.word == Says.GONE_ELSEWHERE.word for one in said)
         then = self.command(Does.BRINGS_BACK, again=True) if is_gone else NOTHING
-        for line, is_moved, _ in elsewhere:
+        for line, _, is_moved, _ in (one for one in elsewhere if one.has_folder):
             its = counted(line.messages, "message"), folder_shown(line.about.folder)
             is_other = line.path not in self.known.names
             said.append(
@@ -551,6 +551,8 @@ class Transfer:
         """How many messages that are nowhere may have been there before, and were deleted."""
         # the ledger may lack what was deleted of other mailboxes that the index counts
         others = sum(one.messages for one in self.known.unknown if one.path not in self.known.names)
+        # and so does a folder that is gone
+        others += sum(one.line.messages for one in elsewhere if not one.has_folder)
         back, ledger = min(others, match.count(Stand.NOWHERE)) + match.gone_in_other_form, self.ledger
         gone = gone_before(ledger)
         if self.path in ledger.sources:
