@@ -171,7 +171,8 @@ def fault_of(error: Union[Fault, OSError], path: bytes) -> Fault:
 def complain_of(error: Union[Fault, OSError], path: bytes = b"") -> None:
     """Prints what is wrong with a file, and what to do next."""
     fault = fault_of(error, path)
-    says = "%s: %s" % (named(path), fault) if path and fault.place is None else str(fault)
+    why = str(fault) or (fault.kind if isinstance(fault, Left) else "")
+    says = "%s: %s" % (named(path), why) if path and fault.place is None else why
     complain(says, lines_below(fault.quotes, fault.next))
 
 

@@ -104,6 +104,7 @@ BY_ROOT = [
 # happened, to what, and why
 ERRORS = [
     ("quote -o box two", "two: box already exists", "    name a file that is not there\n"),
+    ("quote -o copy one", "one: one mail without a From_ line", RUN + "d=$(mktemp -d {home}/one.XXXXXX) && ...\n"),
     ("quote -o none/x box", "none: No such file or directory", RUN + "ls {home}\n"),
     (
         "migrate box M",
@@ -139,6 +140,7 @@ def words_and_files(home: Path) -> None:
     whole. The row of a mailbox has its command below it."""
     for name in ("box", "two", "old/a"):
         mailbox(home / name, ONE)
+    mailbox(home / "one", ONE.split(b"\n", 1)[1])
     for name in ("empty", "There/cur", "There/new", "There/tmp", "Linked/cur", "Linked/new", "Linked/tmp"):
         (home / name).mkdir(parents=True)
     (home / "Linked/mbox2maildir-record").symlink_to("box")
