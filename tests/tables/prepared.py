@@ -151,6 +151,13 @@ STORIES: dict[str, list[Step]] = {
         (FIRST, f"{READS}dovecot.index.log"),
         "=",
     ],
+    # the command that is printed finishes that one: otherwise its mail would stay as nobody's, and come a second time
+    "another_is_prepared_where_somebody_reads": [
+        *(("a", ONE), FIRST, READ, ("b", TWO)),
+        ("migrate --folder INBOX M b", "b: left (prepared): a is prepared in its folder, and only one mailbox can be"),
+        '!eval "$(mbox2maildir-admin migrate --now --folder INBOX M b | grep -e --again)"',
+        *("= one:S", ("migrate M a", "a: done before"), "migrate --folder INBOX M b", "= one:S two"),
+    ],
     "a_server_has_renamed_a_file": [
         *steps(("a", ONE), FIRST, "!for a in M/new/*; do mv $a $a,U=7; done", (LAST, f"{READS}new/...,U=7")),
     ],

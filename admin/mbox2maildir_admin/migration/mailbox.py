@@ -310,7 +310,7 @@ class Transfer:
         """Brings what is new, once it is chosen which text stands for the mailbox, or all that is nowhere. Raises what
         keeps it from being done."""
         if self.preparation and not again:
-            want_usable(self.preparation, self.options, self.opened)
+            want_usable(self.preparation, self.options, self.known)
         self.want_not_leaving(self.path)
         if self.has_failed() and not again:
             raise Left(SYNC_FAILED, Reason.SYNC_FAILED)

@@ -261,10 +261,10 @@ def want_free(one: Preparation, known: Known) -> None:
         raise Left(NOT_FREE, Reason.PREPARED)
 
 
-def want_usable(one: Preparation, options: Options, opened: Opened) -> None:
+def want_usable(one: Preparation, options: Options, known: Known) -> None:
     """Raises Left if what is prepared cannot be finished, with the command that keeps what is there, and places what is
     nowhere. A first pass prints none: what is there may be mail by then."""
-    stage, command = one.stage, functools.partial(options.command, opened)
+    stage, command = one.stage, functools.partial(options.command, known.opened)
     then: Next = NOTHING
     if not options.prepare:
         if stage is Stage.FREE:
@@ -274,7 +274,10 @@ def want_usable(one: Preparation, options: Options, opened: Opened) -> None:
         raise Left(LIST_GONE, Reason.LEDGER, then)
     if one.prepared.has_failed or has_failed(one.ledger):
         raise Left(PREPARED_SYNC_FAILED if one.prepared.has_failed else SYNC_FAILED, Reason.SYNC_FAILED)
-    reader = one.reader()
+    reader, other = one.reader(), other_in(one.prepared.origin, known.names)
+    if reader and other:
+        # what stays there would come a second time once this other one is migrated
+        raise Left(ANOTHER % named(other), Reason.PREPARED, (Answer(command(other, again=True), Does.STORES),))
     if reader:
         raise Left(READ % named(reader), Reason.PREPARED, then)
     origin, was_stripped = one.prepared.origin, not options.extra.IS_STRIPPED
