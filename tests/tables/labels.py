@@ -712,6 +712,31 @@ def a_folder_that_people_renamed(home: Path) -> None:
     equal("what an undo leaves", folders_in(home / "M"), {})
 
 
+def folders_that_people_renamed_to_each_other(home: Path) -> None:
+    """Each stays the folder of its label, whichever folder has its name now, also once that is no label's any more."""
+    messages = [*((word, "Inbox") for word in "abcde"), ("one", "Garden"), ("two", "Shed")]
+    renamed = [(".Garden", ".Old"), (".Shed", ".Garden"), (".Old", ".Shed")]
+    for count in 2, 3:
+        maildir = home / f"M{count}"
+        takeout(home, messages)
+        expect(f"migrate --labels M{count} t.mbox", home, 0, None)
+        for old, new in renamed[:count]:
+            (maildir / old).rename(maildir / new)
+        there = folders_in(maildir)
+        expect(f"migrate --labels M{count} t.mbox", home, 0, "3 mailboxes: 3 done before\n")
+        takeout(home, [*messages, ("three", "Garden")], "beside")
+        for name in ("beside", "t.mbox", "beside"):
+            expect(f"migrate --labels M{count} {name}", home, 0, None)
+        wanted = {name: sorted([*its, *["three"] * ("one" in its)]) for name, its in there.items()}
+        equal(f"{count}: the folders", folders_in(maildir), wanted)
+        takeout(home, messages[:-1])
+        expect(f"migrate --labels M{count} t.mbox", home, 0, None)
+        takeout(home, messages)
+        for name in ("t.mbox", "beside"):
+            expect(f"migrate --undo M{count} {name}", home, 0, None)
+        equal(f"{count}: what an undo leaves", folders_in(maildir), {})
+
+
 def two_labels_of_one_folder(home: Path) -> None:
     """None of them takes mail of the other for its own: both are left while a link leads from one to the other, which
     may lead there only once that one is made. The other folders are done."""

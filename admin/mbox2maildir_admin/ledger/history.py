@@ -238,8 +238,11 @@ class History:
         takeouts = dict.fromkeys(line.path for line in self.notes(Note.LABELS, INBOX))
         others = takeouts if any(one in self.labelled() for one in paths) else {}
         several = [self._names[folder, one] for one in (*paths, *others) if (folder, one) in self._names]
-        its = (one for one in (folder, *several) if self.last_of(one, paths))
-        theirs = (one for one in several if folder not in self.numbers and self.last_of(one, others))
+        # what has the name now may be the folder of another label
+        is_others = any(now == folder != was and one in others for (was, one), now in self._names.items())
+        its = (one for one in (*([] if is_others else [folder]), *several) if self.last_of(one, paths))
+        is_free = is_others or folder not in self.numbers
+        theirs = (one for one in several if is_free and self.last_of(one, others))
         return next(itertools.chain(its, theirs), folder)
 
     def found_of(self, path: bytes) -> list[bytes]:

@@ -80,8 +80,8 @@ class TakeoutUndo(Undo):
         """The folders that have or had something of it, wherever they are now."""
         path = mailbox.path
         self.paths = {*self.record.names_of(path), *([line.path] if line else [])}
-        names = *Noted.of(line).folders, *self.record.folders_with(self.paths)
-        for folder in dict.fromkeys([self.record.name_now(name, path) for name in names]):
+        names = [self.record.name_now(name, path) for name in Noted.of(line).folders]
+        for folder in dict.fromkeys([*names, *self.record.folders_with(self.paths)]):
             last = self.record.last_of(folder, self.paths)
             ledger = Ledger(folder_path(self.record.maildir, folder))
             if last or ledger.damage or self.paths & set(ledger.paths()):
