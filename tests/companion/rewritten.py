@@ -84,6 +84,11 @@ STORIES: dict[str, list[Step]] = {
         *("= a/one a/three a/two b/three", ("m/a", ONE + TWO + THREE + FOUR)),
         ("migrate M m", f"m/a: done: it grew by 1 message; {BACK('1 message')}"),
     ],
+    # what it gets is the same as what somebody has deleted
+    "one_more_of_what_was_deleted": [
+        *(("a", ALL), "migrate M a", LOSES, ("a", ALL + THREE)),
+        *(("migrate M a", f"a: done: it grew by 1 message; {BACK('1 message')}"), "= one three two"),
+    ],
     "it_is_renamed_in_its_tree": [
         *(("m/b", TWO + THREE), "migrate M m", "!rm $(grep -l 'Subject: two' M/.b/new/*)", "!mv m/b m/c"),
         *(("migrate M m", f"m/c: done: {WENT}; {BACK('1 message')}"), (">", "m/c: undone: ..."), "= c/three c/two"),

@@ -141,8 +141,10 @@ class Match:
         self.strangers: collections.defaultdict[bytes, list[bytes]] = collections.defaultdict(list)
         # what a row says of new messages, with the path of the mailbox whose file it says that of, and of how many
         self.seen: collections.Counter[tuple[Sentence, str]] = collections.Counter()
-        # how many new messages other mailboxes brought, in other forms that are gone
+        # how many new messages other mailboxes brought, in other forms that are gone; and of how many that equal new
+        # ones the mailbox has brought the file, which is gone
         self.gone_in_other_form = 0
+        self.gone: collections.Counter[bytes] = collections.Counter()
 
     @classmethod
     def of(cls, ledger: Ledger, path: str, files: Files, is_deleted: IsDeleted) -> "Match":
@@ -290,6 +292,7 @@ class Match:
             for file in sorted(files, key=lambda one: (not one.is_held_by(self.path), not one.is_held)):
                 if file.is_brought:
                     file.find(unnamed, file.bare)
+            self.gone[core] = sum(one.is_gone and one.is_held_by(self.path) for one in files)
             files += [nobodys(name, core, bare) for bare, names in unnamed.items() for name in names]
             served = (one for one in files if self.is_mine(one.name or b"") or one.is_held_by(self.path))
             self.give(places, Offers(offers_of(files, self.path), served, more))

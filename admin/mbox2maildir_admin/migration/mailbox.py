@@ -554,7 +554,7 @@ class Transfer:
         # and so does a folder that is gone
         others += sum(one.line.messages for one in elsewhere if not one.has_folder)
         back, ledger = min(others, match.count(Stand.NOWHERE)) + match.gone_in_other_form, self.ledger
-        gone = gone_before(ledger)
+        gone = gone_before(ledger) + match.gone
         if self.path in ledger.sources:
             # what the mailbox had lost would be there if it had a file still
             gone += ledger.sources[self.path].lost
