@@ -8,7 +8,7 @@ from pathlib import Path
 
 from tests.support.archives import Home, letters, run_rules
 from tests.support.checks import equal
-from tests.support.homes import make_maildir
+from tests.support.homes import mail_in, make_maildir
 from tests.support.running import Run
 
 BACK = ["back", "--json", "--now"]
@@ -146,6 +146,22 @@ def gone_since(home: Home) -> None:
     equal("the mail", subjects_in(home.path / "mail/n"), ["new"])
 
 
+def gone_since_it_was_done(home: Home) -> None:
+    """The only mailbox that has some mail is gone. That is said, though nothing is new in its folder, until it is there
+    again, all of that mail was deleted, or another mailbox has it."""
+    begun(home, {"a": letters(1), "b": letters(2), "c": letters(2), "d": letters(3)})
+    for name in "abc":
+        (home.path / "mail" / name).rename(home.path / name)
+    ran = back(home, "mail", status=1)
+    left = {row["folder"]: row["says"] for row in ran.rows if row["verdict"] == "left"}
+    equal("what is said", left, {name: f"its mailbox is gone: {home.path}/mail/{name}" for name in "abc"})
+    equal("what is to be run", ran.sums.commands, [])
+    (home.path / "c").rename(home.path / "mail/c")
+    (message,) = mail_in(home.path / "M/.a")
+    message.unlink()
+    back(home, "mail")
+
+
 def without_new_or_cur(home: Home) -> None:
     """A copy of the Maildir left out what is empty. What is there goes back, and nothing else was deleted."""
     for gone, there in ("new", "cur/17000.M1.host:2,"), ("cur", "new/17000.M1.host"):
@@ -281,6 +297,7 @@ RULES = (
         past_a_link,
         not_named,
         gone_since,
+        gone_since_it_was_done,
         without_new_or_cur,
         a_link_between_folders,
         two_files_of_a_name,

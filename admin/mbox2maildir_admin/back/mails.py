@@ -4,6 +4,7 @@ A message that a mailbox brought has one file, in its folder or where people hav
 one: IMAP keeps some names and changes others. Any further file is new, also a copy of such a message.
 """
 import collections
+import functools
 import itertools
 import os
 from collections.abc import Callable, Container, Iterable, Iterator, Sequence
@@ -14,7 +15,7 @@ from ..ledger.assign import File, by_form, files_of
 from ..ledger.lines import RETURNED, Line, State
 from ..ledger.ledger import Ledger
 from ..ledger.prepared import Origin, origin_in
-from ..ledger.record import unspelled
+from ..ledger.record import is_gone, unspelled
 from ..looks import is_link, is_there, may_be, state_at
 from ..maildir.files import changed_at, listings_of
 from ..maildir.folders import folder_shown, folders_in, name_of, words_of
@@ -106,13 +107,14 @@ FORMS: Sequence[Callable[[bytes, bytes, bytes], bytes]] = (
 class Findings(NamedTuple):
     """By folders: what is new, in its order; the folders of messages that were moved there; of each message that was
     changed, and of each that was deleted, the paths of the mailboxes that have it; and what went back before, and is in
-    its folder."""
+    its folder. And the folders from which mail is there that no mailbox has which is still at its path."""
 
     new: dict[bytes, list[Mail]]
     moved: dict[bytes, list[bytes]]
     changed: dict[bytes, list[set[str]]]
     deleted: dict[bytes, list[set[str]]]
     returned: dict[bytes, list[Mail]]
+    alone: set[bytes]
 
     @classmethod
     def by(cls, lines: Iterable[tuple[bytes, list[Line]]], mails: Iterable[Mail]) -> "Findings":
@@ -140,7 +142,16 @@ class Findings(NamedTuple):
             by_folder((slot.folder, slot.paths) for mail, slot in found if mail.core != slot.core),
             by_folder((slot.folder, slot.paths) for slot in slots if slot.file.is_held and slot.file.name is None),
             by_folder((mail.folder, mail) for mail, slot in at_home if slot.went_back(State.HELD)),
+            folders_alone(slots),
         )
+
+
+def folders_alone(slots: Sequence[Slot]) -> set[bytes]:
+    """The folders from which mail is there that no mailbox has which is still at its path."""
+    held, is_gone_once = [slot for slot in slots if slot.file.is_held], functools.lru_cache(maxsize=None)(is_gone)
+    gone = [slot for slot in held if slot.file.name and all(map(is_gone_once, slot.paths))]
+    others = {slot.core for slot in held if gone and not all(map(is_gone_once, slot.paths))}
+    return {slot.folder for slot in gone if slot.core not in others}
 
 
 def by_folder(pairs: Iterable[tuple[bytes, One]]) -> dict[bytes, list[One]]:

@@ -66,12 +66,15 @@ class Folders:
     def __init__(self, way: Way) -> None:
         self.way, self.places, self.is_dry = way, way.places, way.options.dry
         self.is_right = True
+        # the folders with mail whose mailboxes are gone, as if their disk was not mounted
+        self.gone: set[bytes] = set()
 
     def run(self) -> Next:
         """Brings back the mail of each folder, and tells its row. Returns what moves the Maildir aside, once all of its
         mail is back."""
         maildir, observer = self.way.record.maildir, self.way.observer
         found = findings_in(maildir, self.places.found, observer.say(maildir))
+        self.gone.update(filter(self.places.are_gone, found.alone))
         observer.rest(named(maildir))
         self.add_deleted_folders(found)
         if not self.is_dry:
@@ -119,9 +122,7 @@ class Folders:
 
     def folders(self, found: Findings) -> Iterator[bytes]:
         """The folders with mail that goes back, or with a mailbox, and those about which something is to be said."""
-        wanted = {*found.new, *found.moved, *found.changed, *found.deleted, *self.places.found}
-        # what went back may be on a disk that is not mounted now, or was not then
-        wanted.update(filter(self.places.are_gone, found.returned))
+        wanted = {*found.new, *found.moved, *found.changed, *found.deleted, *self.places.found, *self.gone}
         there = {name_of(self.way.record.maildir, path): path for path in folders_in(self.way.record.maildir)}
         for folder, path in there.items():
             if folder in wanted or is_there(os.path.join(path, GOES_BACK)):
@@ -162,7 +163,7 @@ class Folders:
         what it cannot hold."""
         try:
             yield from self.recovered(target.folder)
-            if not target.mails and not (target.returned and self.places.are_gone(target.folder)):
+            if not target.mails and target.folder not in self.gone:
                 yield self.way.row_without_mail(target)
                 return
             several = self.places.of(target.folder)
