@@ -71,8 +71,9 @@ KNOWN = frozenset[str]().union(*LANGUAGES.values())
 def language_of(several: Iterable[Iterable[str]], earlier: Iterable[str] = ()) -> str:
     """The language of Gmail's own labels in a mailbox whose messages have these labels, by its word for Inbox. It is
     another one than English if its word is among them, and no label `Inbox`, unless earlier mailboxes had that
-    language: what is a folder of Gmail's in one language may be somebody's label in another. In a mailbox without a word for Inbox it is one of which each message
-    has a name, since Gmail says of each where it is, if none has a name that only others have."""
+    language: what is a folder of Gmail's in one language may be somebody's label in another. In a mailbox without a
+    word for Inbox it is one of which each message has a name, since Gmail says of each where it is, if none has a name
+    that only others have."""
     messages = {frozenset(labels) for labels in several}
     there = frozenset[str]().union(*messages)
     languages = [inbox for inbox in (*earlier, *LANGUAGES) if inbox in there]
