@@ -446,7 +446,7 @@ def standing(home: Home) -> None:
 
 def deleted_folders(home: Home) -> None:
     """People deleted a folder, and made one anew. The rows of their mailboxes say what these still have; one whose
-    folder has only lost its ledger says nothing, nor does one that was not migrated."""
+    folder has only lost its ledger says nothing, nor does one that was not migrated. `migrate` brings none of it."""
     home.begin("--jobs", "1")
     for name, numbers in (("a", (1, 2)), ("b", (3, 4, 5)), ("c", (6,)), ("d", (7,))):
         home.write(f"mail/{name}", letters(*numbers))
@@ -465,6 +465,9 @@ def deleted_folders(home: Home) -> None:
         wanted = {"mail/a": deleted[:1], "mail/b": deleted[1:], "mail/c": ["1 message there already"], "mail/d": []}
         equal(f"{words}: what is said", says, wanted)
         equal(f"{words}: the sums", ran.sums["still_there"], {"deleted": 5, "changed": 0})
+    reasons = {path: row["reason"] for path, row in home.run("mail").rows.items() if row["reason"]}
+    equal("what is left", reasons, {"mail/b": "ledger"})
+    equal("no deleted mail has come back", len([*home.folder("b").glob("*/*")]), 1)
 
 
 RULES = (

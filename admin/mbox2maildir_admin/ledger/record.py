@@ -258,13 +258,16 @@ class Record(History):
 
     def changes_in(self, name: bytes, ledger: Ledger) -> list[RecordLine]:
         """The lines that the index lacks of the mailboxes of a folder, as far as its ledger has all that it had. What
-        damage has left of one that no line names shows which mailboxes it has."""
+        damage has left of one that no line names shows which mailboxes it has. If the folder was deleted and made anew,
+        mail that went back into a mailbox does not show what else that had brought."""
         last = {one.path: one for one in self.index_of(name) if one.ledger == ledger.number}
+        had_other = {one.path for one in self.unknown_to(name, ledger)}
         found = []
         for path, number in [] if ledger.damage and ledger.number in self.ledger_sizes else ledger.lasts.items():
             before, now = last.get(path), self.index_line(name, ledger, path)
             is_known = before is not None and number >= before.number and now.says() != before.says()
-            if is_known or before is None and now.what is not Event.UNDONE:
+            is_unsure = path in had_other and now.about[1:] == NO_TEXT
+            if is_known or before is None and now.what is not Event.UNDONE and not is_unsure:
                 found.append(now)
         return found
 
