@@ -94,6 +94,10 @@ STORIES: dict[str, list[Step]] = {
         *(("migrate M m", f"m/c: done: {WENT}; {BACK('1 message')}"), (">", "m/c: undone: ..."), "= c/three c/two"),
         *("!rm -r M/.c; mv m/c m/d", ("migrate M m", f"m/d: done: {BACK('2 messages')}"), "= d/three d/two"),
     ],
+    "it_moves_in_its_tree_and_grows": [
+        *(("m/b", TWO + THREE), "migrate M m", "!mkdir m/s; mv m/b m/s/b", ("m/s/b", TWO + THREE + FOUR)),
+        *(("migrate M m", f"m/s/b: done: {WENT}"), (">", "m/s/b: undone: ..."), "= s.b/four s.b/three s.b/two"),
+    ],
     # it was gone from the mailbox for a while, and somebody deleted it meanwhile
     "deleted_and_in_it_again": [
         *(("a", ALL), "migrate M a", ("a", ONE + TWO), "migrate M a", LOSES, ("a", ALL)),

@@ -134,9 +134,12 @@ class Places:
         return [found[0] if folder == INBOX else self.new(folder)]
 
     def are_gone(self, folder: bytes) -> bool:
-        """Whether all mailboxes of a folder are gone."""
+        """Whether all mailboxes of a folder are gone, and no file of such a name is beside a mailbox that was named: of a
+        tree that was moved, some may be named."""
         paths = Ledger(folder_path(self.record.maildir, folder)).paths()
-        return not any(map(is_there, self.found.get(folder, ()))) and all(map(is_gone, paths))
+        above = {os.path.dirname(one) for found in self.found.values() for one in found}
+        moved = (os.path.join(one, os.path.basename(unspelled(path))) for one in above for path in paths)
+        return not any(map(is_there, (*self.found.get(folder, ()), *moved))) and all(map(is_gone, paths))
 
     @functools.cached_property
     def paths_named(self) -> set[str]:

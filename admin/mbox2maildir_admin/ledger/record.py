@@ -53,7 +53,6 @@ class Record(History):
         self.maildir, self.path = maildir, os.path.join(maildir, RECORD)
         self._descriptor: Optional[int] = None
         self.size, self.is_cut, self.has_first_line = 0, False, False
-        self._gone: dict[str, list[RecordLine]] = {}
         # why ledgers could not be read, by their paths
         self.unread: dict[bytes, Union[Fault, OSError]] = {}
         # the lines that wait for the file to be made; and whether lines stay in memory
@@ -204,12 +203,16 @@ class Record(History):
         for line in filter(None, map(RecordLine.parse, lines)):
             self.take(line)
 
-    def gone(self, above: str) -> list[RecordLine]:
-        """The lines about those mailboxes in the folder of this path that were gone when this was asked first."""
-        if above not in self._gone:
-            lines = (line for line in self.lines() if os.path.dirname(line.path) == above)
-            self._gone[above] = [line for line in lines if is_gone(line.path)]
-        return self._gone[above]
+    @functools.cached_property
+    def _gone(self) -> list[RecordLine]:
+        return [line for line in self.lines() if is_gone(line.path)]
+
+    def gone(self, path: str) -> list[RecordLine]:
+        """The lines about those mailboxes in the folder of a path, or of its name, that were gone when this was asked
+        first."""
+        above, name = os.path.split(path)
+        pairs = ((line, *os.path.split(line.path)) for line in self._gone)
+        return [line for line, its, its_name in pairs if its == above or its_name == name]
 
     def add(self, what: What, about: About, messages: int, path: bytes, words: Optional[str] = None) -> None:
         """Appends a line: see `add_lines`."""

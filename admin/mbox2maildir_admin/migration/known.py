@@ -147,7 +147,7 @@ class Known:
             lines = record.lines_of(self.opened.mailbox)
             same = [*filter(None, own), *(line for line in lines if is_gone(line.path) or is_replaced(line))]
         # the same bytes may have fewer messages as they are read now
-        gone = (line for line in record.gone(os.path.dirname(self.names[0])) if line.messages <= most)
+        gone = (line for line in record.gone(self.names[0]) if line.messages <= most)
         others = [line for line in gone if line not in same and line.about.folder != self.opened.name]
         return [line for line in same if line.about.folder != self.opened.name], others
 
