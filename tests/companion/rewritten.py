@@ -98,6 +98,11 @@ STORIES: dict[str, list[Step]] = {
         *(("m/b", TWO + THREE), "migrate M m", "!mkdir m/s; mv m/b m/s/b", ("m/s/b", TWO + THREE + FOUR)),
         *(("migrate M m", f"m/s/b: done: {WENT}"), (">", "m/s/b: undone: ..."), "= s.b/four s.b/three s.b/two"),
     ],
+    "it_moves_in_its_tree_to_another_name_and_grows": [
+        *(("m/b", TWO + THREE), "migrate M m", "!rm $(grep -l 'Subject: two' M/.b/new/*); mkdir m/s; mv m/b m/s/c"),
+        *(("m/s/c", TWO + THREE + FOUR), ("migrate M m", f"m/s/c: done: {WENT}; {BACK('1 message')}")),
+        *((">", "m/s/c: undone: ..."), "= s.c/four s.c/three s.c/two"),
+    ],
     # it was gone from the mailbox for a while, and somebody deleted it meanwhile
     "deleted_and_in_it_again": [
         *(("a", ALL), "migrate M a", ("a", ONE + TWO), "migrate M a", LOSES, ("a", ALL)),

@@ -204,14 +204,14 @@ class Record(History):
             self.take(line)
 
     @functools.cached_property
-    def _gone(self) -> list[RecordLine]:
+    def all_gone(self) -> list[RecordLine]:
+        """The lines about those mailboxes that were gone when this was asked first."""
         return [line for line in self.lines() if is_gone(line.path)]
 
     def gone(self, path: str) -> list[RecordLine]:
-        """The lines about those mailboxes in the folder of a path, or of its name, that were gone when this was asked
-        first."""
+        """Those of them in the folder of a path, or of its name."""
         above, name = os.path.split(path)
-        pairs = ((line, *os.path.split(line.path)) for line in self._gone)
+        pairs = ((line, *os.path.split(line.path)) for line in self.all_gone)
         return [line for line, its, its_name in pairs if its == above or its_name == name]
 
     def add(self, what: What, about: About, messages: int, path: bytes, words: Optional[str] = None) -> None:
