@@ -134,8 +134,8 @@ class Places:
         return [found[0] if folder == INBOX else self.new(folder)]
 
     def are_gone(self, folder: bytes) -> bool:
-        """Whether all mailboxes of a folder are gone, and no file of such a name is beside a mailbox that was named: of a
-        tree that was moved, some may be named."""
+        """Whether all mailboxes of a folder are gone, and no file of such a name is beside a mailbox that was named:
+        some of a tree that was moved may be named."""
         paths = Ledger(folder_path(self.record.maildir, folder)).paths()
         above = {os.path.dirname(one) for found in self.found.values() for one in found}
         moved = (os.path.join(one, os.path.basename(unspelled(path))) for one in above for path in paths)
