@@ -729,6 +729,14 @@ def folders_that_people_renamed_to_each_other(home: Path) -> None:
             expect(f"migrate --labels M{count} {name}", home, 0, None)
         wanted = {name: sorted([*its, *["three"] * ("one" in its)]) for name, its in there.items()}
         equal(f"{count}: the folders", folders_in(maildir), wanted)
+        # and once they have their first names again
+        back = [(new, old) for old, new in renamed[:count][::-1]]
+        for old, new in back:
+            (maildir / old).rename(maildir / new)
+        wanted = folders_in(maildir)
+        for name in ("t.mbox", "beside"):
+            expect(f"migrate --labels M{count} {name}", home, 0, "3 mailboxes: 3 done before\n")
+        equal(f"{count}: the folders once more", folders_in(maildir), wanted)
         takeout(home, messages[:-1])
         expect(f"migrate --labels M{count} t.mbox", home, 0, None)
         takeout(home, messages)

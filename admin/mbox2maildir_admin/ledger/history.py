@@ -136,6 +136,8 @@ class History:
         # the folders that a path had; and the names that such folders have now, by those that they had for a path
         self._folders: collections.defaultdict[str, dict[bytes, None]] = collections.defaultdict(dict)
         self._names: dict[tuple[bytes, str], bytes] = {}
+        # by ledgers: the name that its folder had first for each path
+        self._first_names: collections.defaultdict[str, dict[str, bytes]] = collections.defaultdict(dict)
         # the sizes of the texts that have an event: one of another size is not read to find out whether it has one
         self.sizes: set[int] = set()
         # the last line with an event of each text, by its size and its SHA-256: by the folders and paths that it has
@@ -190,6 +192,7 @@ class History:
         if line.ledger:
             self.ledger_sizes[line.ledger] = line.size
             self.last_numbers[line.ledger] = max(line.number, self.last_numbers.get(line.ledger, 0))
+            self._first_names[line.ledger].setdefault(line.path, folder)
             if self.numbers.get(folder) != line.ledger:
                 folder = self.folders.get(line.ledger, folder)
                 self._names[line.about.folder, line.path] = folder
@@ -237,13 +240,23 @@ class History:
         paths = self.names_of(path)
         takeouts = dict.fromkeys(line.path for line in self.notes(Note.LABELS, INBOX))
         others = takeouts if any(one in self.labelled() for one in paths) else {}
-        several = [self._names[folder, one] for one in (*paths, *others) if (folder, one) in self._names]
+        labels = self.labels_by(others)
+        several = [self._names[folder, one] for one in paths if (folder, one) in self._names and not others]
+        several += [now for now, label in labels.items() if label == folder]
         # what has the name now may be the folder of another label
-        is_others = any(now == folder != was and one in others for (was, one), now in self._names.items())
+        is_others = labels.get(folder, folder) != folder
         its = (one for one in (*([] if is_others else [folder]), *several) if self.last_of(one, paths))
         is_free = is_others or folder not in self.numbers
         theirs = (one for one in several if is_free and self.last_of(one, others))
         return next(itertools.chain(its, theirs), folder)
+
+    def labels_by(self, takeouts: Container[str]) -> dict[bytes, bytes]:
+        """The names that folders had when the first of these Takeouts filled them, by the names that they have now."""
+        first = {
+            number: next((name for path, name in names.items() if path in takeouts), b"")
+            for number, names in self._first_names.items()
+        }
+        return {self.folders[number]: name for number, name in first.items() if name and number in self.folders}
 
     def found_of(self, path: bytes) -> list[bytes]:
         """The folders whose ledgers have a mailbox, if no other line names them. Raises OSError if the path can't be
