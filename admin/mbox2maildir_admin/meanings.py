@@ -123,7 +123,7 @@ LOOK = {
     "deleted-left-out": "Mail that Thunderbird had marked as deleted was left out.",
     "double": "A message of it is there more than once.",
     "doubtful-line": "Lines in it may begin messages that were not counted.",
-    "elsewhere": "It went into another folder before. Its command removes it there.",
+    "elsewhere": "It, or mail of it, went into another folder before. If it has a command, that removes it there.",
     "first-appears": "A message in which an IMAP server kept its own notes becomes mail: delete that message.",
     "flags-differ": "Messages are marked in it, such as flagged or answered, but not in the Maildir: another mailbox "
     "brought them first, and its marks stay. Mark them there if you want that.",

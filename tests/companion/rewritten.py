@@ -84,6 +84,19 @@ STORIES: dict[str, list[Step]] = {
         *("= a/one a/three a/two b/three", ("m/a", ONE + TWO + THREE + FOUR)),
         ("migrate M m", f"m/a: done: it grew by 1 message; {BACK('1 message')}"),
     ],
+    # the same across folders of a tree, or from the spool
+    "two_of_several_folders_are_joined": [
+        *(("m/b", TWO + THREE), ("m/s/c", ONE), "migrate M m", "!rm $(grep -l 'Subject: two' M/.b/new/*)"),
+        "!cat m/b >>m/s/c; rm m/b",
+        ("migrate M m", f"m/s/c: done: it grew by 2 messages; {WENT}; {BACK('1 message')}"),
+        "= b/three s.c/one s.c/three s.c/two",
+    ],
+    # it lost a message by then
+    "it_has_lost_mail_and_is_renamed": [
+        *(("m/b", ONE + TWO + THREE), "migrate M m", "!rm $(grep -l 'Subject: two' M/.b/new/*); rm m/b"),
+        *(("m/c", TWO + THREE), ("migrate M m", f"m/c: done: {WENT}; {BACK('1 message')}")),
+        "= b/one b/three c/three c/two",
+    ],
     # what it gets is the same as what somebody has deleted
     "one_more_of_what_was_deleted": [
         *(("a", ALL), "migrate M a", LOSES, ("a", ALL + THREE)),

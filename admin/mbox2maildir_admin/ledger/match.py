@@ -411,3 +411,23 @@ class Hashes:
     def __contains__(self, name: object) -> bool:
         at = bisect.bisect_left(self.several, hash(name))
         return at < len(self.several) and self.several[at] == hash(name)
+
+
+class Holders:
+    """Which of several mailboxes, by their numbers, may have a core. A core takes 8 bytes: its hash, with the number in
+    the last bits."""
+
+    NUMBER = (1 << 24) - 1
+
+    def __init__(self, several: Iterable[Iterable[bytes]]) -> None:
+        pairs = (hash(core) & ~self.NUMBER | number for number, cores in enumerate(several) for core in cores)
+        self.several = array.array("q", sorted(array.array("q", pairs)))
+
+    def of(self, cores: Iterable[bytes]) -> list[int]:
+        """The numbers of those that may have one of these cores."""
+        found = set[int]()
+        for first in (hash(core) & ~self.NUMBER for core in (cores if self.several else ())):
+            start = bisect.bisect_left(self.several, first)
+            end = bisect.bisect_right(self.several, first | self.NUMBER)
+            found.update(pair & self.NUMBER for pair in self.several[start:end])
+        return sorted(found)

@@ -10,10 +10,11 @@ import contextlib
 import errno
 import fcntl
 import functools
+import itertools
 import os
 import re
 import time
-from collections.abc import Callable, Container, Iterator, Sequence
+from collections.abc import Callable, Container, Iterable, Iterator, Sequence
 from typing import Optional, Union
 
 from ..faults import Fault, Reason, fault_of, naming
@@ -25,6 +26,7 @@ from ..units import Size
 from .history import TIME, About, Event, History, Note, RecordLine, What
 from .ledger import Ledger, count_in
 from .lines import BY_ANOTHER, CUT, FIRST_LINE, lines_in, want_trusted, was_cut
+from .match import Holders
 
 AT_WORK_OR_LEFT = "another migrate is at work in %s, or a convert that an interrupted one left behind"
 MADE_MEANWHILE = "another migrate has made %s meanwhile"
@@ -204,15 +206,17 @@ class Record(History):
             self.take(line)
 
     @functools.cached_property
-    def all_gone(self) -> list[RecordLine]:
-        """The lines about those mailboxes that were gone when this was asked first."""
-        return [line for line in self.lines() if is_gone(line.path)]
+    def _gone(self) -> tuple[list[RecordLine], Holders]:
+        """The lines about those mailboxes that were gone when this was asked first, and which of these has a core."""
+        gone = [line for line in self.lines() if is_gone(line.path)]
+        folders = itertools.groupby(gone, lambda line: folder_path(self.maildir, line.about.folder))
+        cores = (map(Ledger(folder).has, (line.path for line in its)) for folder, its in folders)
+        return gone, Holders(itertools.chain.from_iterable(cores))
 
-    def gone(self, path: str) -> list[RecordLine]:
-        """Those of them in the folder of a path, or of its name."""
-        above, name = os.path.split(path)
-        pairs = ((line, *os.path.split(line.path)) for line in self.all_gone)
-        return [line for line, its, its_name in pairs if its == above or its_name == name]
+    def gone(self, cores: Iterable[bytes]) -> list[RecordLine]:
+        """The lines about those of these mailboxes that may have one of these cores by the ledger of their folder."""
+        gone, holders = self._gone
+        return [gone[number] for number in holders.of(cores)]
 
     def add(self, what: What, about: About, messages: int, path: bytes, words: Optional[str] = None) -> None:
         """Appends a line: see `add_lines`."""

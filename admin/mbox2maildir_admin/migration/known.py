@@ -1,7 +1,6 @@
 """A mailbox that is open, and what the record of a Maildir and the ledger of a folder know of it before it is read."""
 import collections
-import os
-from collections.abc import Container, Iterator, Sequence
+from collections.abc import Container, Iterable, Iterator, Sequence
 from typing import NamedTuple, Optional
 
 from ..ledger.gone import gone_there
@@ -50,11 +49,12 @@ class Opened(NamedTuple):
 
 
 class Elsewhere(NamedTuple):
-    """A line of the index by which a mailbox went into another folder; whether that is still there; whether the mailbox
-    is there twice: it was moved, or has its path, and is no other one with its bytes; and the cores of what is gone
-    from the folder."""
+    """A line of the index by which a mailbox went into another folder; how many of these messages this one has; whether
+    the folder is still there; whether the mailbox is there twice: it was moved, or has its path, and is no other one
+    with its bytes; and the cores of what is gone from the folder."""
 
     line: RecordLine
+    messages: int
     has_folder: bool
     is_moved: bool
     gone: collections.Counter[bytes]
@@ -120,36 +120,32 @@ class Known:
         return line if line and line.what is Event.DONE else None
 
     def elsewhere(self, inventory: Inventory, new: Sequence[int]) -> Iterator[Elsewhere]:
-        """Where all went, or began to go, before another folder was named for the mailbox; and that mailboxes had which
-        are gone from their paths, if this one has it, and not from before: it may be one of them, which was moved, or
-        got their mail. A run that was killed could not say this."""
-        same, others = self.lines_elsewhere(len(inventory)) if new and not self.by_index else ([], [])
+        """Where all went, or began to go, before another folder was named for the mailbox; and where mail went that is
+        new to it, of mailboxes that are gone from their paths: it may be one of them, which was moved, or got their
+        mail. A run that was killed could not say this."""
+        same, others = self.lines_elsewhere(map(inventory.core, new)) if new and not self.by_index else ([], [])
         cores = cores_of(inventory) if same or others else collections.Counter[bytes]()
         for line in (*same, *others):
             ledger = Ledger(folder_path(self.record.maildir, line.about.folder))
             has, is_known = ledger.has(line.path), line.path in ledger.paths()
-            if line in others and (
-                not ledger.is_in(line.path, cores) or not any(has[inventory.core(at)] for at in new)
-            ):
+            if line in others and not any(has[inventory.core(at)] for at in new):
                 continue
-            is_same = line in same or line.path in moved_in(ledger, self.opened.mailbox)
-            is_moved = is_known and (line.path in self.names or is_same and is_gone(line.path))
+            is_whole = ledger.is_in(line.path, cores) and line.path in moved_in(ledger, self.opened.mailbox)
+            is_moved = line.path in self.names or is_gone(line.path) and (line in same or is_whole)
             has_folder = is_known or is_folder(ledger.folder) and not ledger.number
-            yield Elsewhere(line, has_folder, is_moved, gone_there(ledger, line.path))
+            count = sum((has & cores).values()) or line.messages
+            yield Elsewhere(line, count, has_folder, is_known and is_moved, gone_there(ledger, line.path))
 
-    def lines_elsewhere(self, most: int) -> tuple[list[RecordLine], list[RecordLine]]:
+    def lines_elsewhere(self, new: Iterable[bytes]) -> tuple[list[RecordLine], list[RecordLine]]:
         """The lines of the index about other folders: into which the mailbox went, if it is new, or one with the same
-        bytes, whose path another one may have by now; and into which others went, of so many messages at most, that are
-        gone."""
+        bytes, whose path another one may have by now; and into which others went that are gone, and may have one of
+        these cores."""
         record, same = self.record, list[RecordLine]()
         if self.path not in self.ledger.sources:
             own = (record.last_of(folder, self.names) for folder in record.folders_with(self.names))
             lines = record.lines_of(self.opened.mailbox)
             same = [*filter(None, own), *(line for line in lines if is_gone(line.path) or is_replaced(line))]
-        # the same bytes may have fewer messages as they are read now
-        gone = (*record.gone(self.names[0]), *begun_with(self.opened.mailbox, record.all_gone))
-        others = [one for one in dict.fromkeys(gone) if one not in same and one.messages <= most]
-        others = [line for line in others if line.about.folder != self.opened.name]
+        others = [line for line in record.gone(new) if line not in same and line.about.folder != self.opened.name]
         return [line for line in same if line.about.folder != self.opened.name], others
 
     def joined(self, given: Container[bytes]) -> list[bytes]:

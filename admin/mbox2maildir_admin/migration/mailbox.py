@@ -408,8 +408,8 @@ class Transfer:
         said = [*said, *remarks_on_match(steps, self.options.dry), *back_in(self.ledger)]
         is_gone = any(one.word == Says.GONE_ELSEWHERE.word for one in said)
         then = self.command(Does.BRINGS_BACK, again=True) if is_gone else NOTHING
-        for line, _, is_moved, _ in (one for one in elsewhere if one.has_folder):
-            its = counted(line.messages, "message"), folder_shown(line.about.folder)
+        for line, messages, _, is_moved, _ in (one for one in elsewhere if one.has_folder):
+            its = counted(messages, "message"), folder_shown(line.about.folder)
             is_other = line.path not in self.known.names
             said.append(
                 Says.ELSEWHERE_FROM.of(*its, named(unspelled(line.path))) if is_other else Says.ELSEWHERE.of(*its)
