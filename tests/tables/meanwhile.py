@@ -268,6 +268,11 @@ STORIES: dict[str, list[Step]] = {
         *(("migrate --dry-run M b", "b: done before"), f"!cat {LEDGER} {RECORD} | cmp - kept"),
         *(("migrate M b", "b: done before"), ("a", TWO), ("migrate M a", "a: done: INBOX has the mail of b too")),
     ],
+    # the clock was ahead when mail came
+    "a_folder_changed_in_the_future_and_mail_goes_back": [
+        *(("b", ONE), "migrate M b", "!printf 'Subject: new\\n\\n' >M/new/1.host; touch -d tomorrow M/new"),
+        *(("back M b", "b: back"), ("back M b", "b: nothing new")),
+    ],
     "a_mailbox_was_moved_and_mail_goes_back": [
         *(
             ("a", ONE),

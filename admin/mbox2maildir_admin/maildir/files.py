@@ -71,15 +71,17 @@ def listings_of(folder: bytes, is_whole: bool = False) -> Iterator[Iterator[Name
     """Lists the mail of a folder, and lists it again if a mail program renames files meanwhile, which a listing may
     miss. Raises FileNotFoundError if it has neither `new` nor `cur`, and Left if nothing is to be missed and names
     still change in the end."""
+    earlier = list[float]()
     for _ in range(PASSES):
         began, before = time.time(), changed_at(folder)
         if not any(before):
             raise FileNotFoundError(errno.ENOENT, os.strerror(errno.ENOENT), folder)
         yield mail_in(folder)
-        # the clock of a file system has ticks
-        if changed_at(folder) == before and max(before) < began - CLOCK_TICK:
+        # the clock of a file system has ticks, and may be or have been ahead
+        if changed_at(folder) == before and (max(before) < began - CLOCK_TICK or before == earlier):
             return
         if is_whole:
+            earlier = before
             time.sleep(CLOCK_TICK)
     if is_whole:
         raise Left(NAMES_CHANGE, Reason.CHANGED, task(Todo.STOP_READERS), place=folder)
