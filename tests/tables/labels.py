@@ -745,6 +745,18 @@ def folders_that_people_renamed_to_each_other(home: Path) -> None:
         equal(f"{count}: what an undo leaves", folders_in(maildir), {})
 
 
+def a_folder_that_was_renamed_to_another_label(home: Path) -> None:
+    """It gets the mail of that label, which stays there once it has its first name again."""
+    takeout(home, [*((word, "Inbox") for word in "abcde"), ("one", "Garden")])
+    expect(LABELS, home, 0, None)
+    (home / "M/.Garden").rename(home / "M/.Shed")
+    takeout(home, [*((word, "Inbox") for word in "abcde"), ("two", "Shed")], "beside")
+    expect("migrate --labels M beside", home, 0, None)
+    (home / "M/.Shed").rename(home / "M/.Garden")
+    expect("migrate --labels M beside", home, 0, "2 mailboxes: 2 done before\n")
+    equal("the folders", folders_in(home / "M"), {"": [*"abcde"], ".Garden": ["one", "two"]})
+
+
 def two_labels_of_one_folder(home: Path) -> None:
     """None of them takes mail of the other for its own: both are left while a link leads from one to the other, which
     may lead there only once that one is made. The other folders are done."""

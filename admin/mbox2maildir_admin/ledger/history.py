@@ -241,8 +241,8 @@ class History:
         takeouts = dict.fromkeys(line.path for line in self.notes(Note.LABELS, INBOX))
         others = takeouts if any(one in self.labelled() for one in paths) else {}
         labels = self.labels_by(others)
-        several = [self._names[folder, one] for one in paths if (folder, one) in self._names and not others]
-        several += [now for now, label in labels.items() if label == folder]
+        several = [now for now, label in labels.items() if label == folder and self.last_of(now, others)]
+        several = several or [self._names[folder, one] for one in (*paths, *others) if (folder, one) in self._names]
         # what has the name now may be the folder of another label
         is_others = labels.get(folder, folder) != folder
         its = (one for one in (*([] if is_others else [folder]), *several) if self.last_of(one, paths))
