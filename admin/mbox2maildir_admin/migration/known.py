@@ -4,11 +4,11 @@ from collections.abc import Container, Iterable, Iterator, Sequence
 from typing import NamedTuple, Optional
 
 from ..ledger.gone import gone_there
-from ..ledger.history import About, Event, History, Note, RecordLine
+from ..ledger.history import About, Event, Note, RecordLine
 from ..ledger.ledger import Ledger, count_in
 from ..ledger.match import cores_of
 from ..ledger.record import Record, is_gone, unspelled
-from ..looks import is_folder, is_there, may_be, state_at
+from ..looks import is_folder, is_there, state_at
 from ..maildir.folders import INBOX, folder_path
 from ..maildir.making import SyncNames, make_maildir
 from ..mbox.inventory import Inventory
@@ -204,21 +204,6 @@ def moved_in(ledger: Ledger, mailbox: Mailbox) -> list[str]:
     the bytes of that, or is the same file. To be sure, it also has all that the mailbox had."""
     key, inode = mailbox.key(), mailbox.state.st_ino
     return [path for path in ledger.paths() if ledger.is_of(path, key, inode) and is_gone(path)]
-
-
-def lines_of_moved(mailbox: Mailbox, record: History) -> list[RecordLine]:
-    """The lines about mailboxes that are gone, and that this one may be, moved."""
-    several = (*record.lines_of(mailbox), *record.lines(), *record.all_prepared())
-    return begun_with(mailbox, [one for one in several if not may_be(is_there, unspelled(one.path))])
-
-
-def begun_with(mailbox: Mailbox, gone: Sequence[RecordLine]) -> list[RecordLine]:
-    """Of the lines about mailboxes that are gone, those about such as had the bytes of this one or, if none had, the
-    most of those with which it begins: then it has grown. It is read as far as the largest of these."""
-    several = [one for one in gone if one.about.size == mailbox.size or one.about.size < mailbox.size and one.messages]
-    beginnings = mailbox.beginnings({one.about.size for one in several if one.about.size})
-    its = [one for one in several if beginnings.get(one.about.size) == one.about.digest]
-    return [one for one in its if one.about.size == max(other.about.size for other in its)]
 
 
 def is_replaced(line: RecordLine) -> bool:

@@ -9,9 +9,9 @@ from typing import NamedTuple, Optional
 from ..faults import Fault, Left, Reason, fault_of
 from ..kinds.folders import Profiles
 from ..kinds.named import is_no_mail, name_of_folder
-from ..ledger.history import Event, History, Note
+from ..ledger.history import Event, History, Note, RecordLine
 from ..ledger.record import Record, unspelled
-from ..looks import is_file
+from ..looks import is_file, is_there, may_be
 from ..maildir.files import mail_in
 from ..maildir.folders import COPIES, COPY, INBOX, folder_on_disk, folder_path, folder_shown, words_of
 from ..maildir.disk import SyncOne
@@ -19,7 +19,6 @@ from ..mbox.mailbox import Mailbox
 from ..nexts import Answer, Command, Does, Next, Runs, Single, Todo, run_next, task
 from ..readings.reading import UNDECIDED, Reading
 from ..terminal import is_text, named, operand, option
-from .known import lines_of_moved
 from .options import Options
 
 ELSEWHERE = "its mail is in %s: the ledger there says so, and the record does not"
@@ -95,6 +94,19 @@ def folders_of_moved(path: bytes, record: History) -> list[bytes]:
     lines = [one for one in lines if not Reading.of_words(one.words).part]
     named_so = [one for one in lines if os.path.basename(unspelled(one.path)) == os.path.basename(path)]
     return list(dict.fromkeys(one.about.folder for one in named_so or lines))
+
+
+def lines_of_moved(mailbox: Mailbox, record: History) -> list[RecordLine]:
+    """The lines about mailboxes that are gone, and had the bytes of this one or, if none had, the most of those with
+    which it begins: then it has grown. It is read as far as the largest that is gone."""
+    several = (*record.lines_of(mailbox), *record.lines(), *record.all_prepared())
+    smaller = [
+        one for one in several if one.about.size == mailbox.size or one.about.size < mailbox.size and one.messages
+    ]
+    gone = [one for one in smaller if one.about.size and not may_be(is_there, unspelled(one.path))]
+    beginnings = mailbox.beginnings({one.about.size for one in gone})
+    its = [one for one in gone if beginnings.get(one.about.size) == one.about.digest]
+    return [one for one in its if one.about.size == max(other.about.size for other in its)]
 
 
 def as_named(one: Planned, record: Record, options: Options) -> Planned:
