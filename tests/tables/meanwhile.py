@@ -268,6 +268,11 @@ STORIES: dict[str, list[Step]] = {
         *(("migrate --dry-run M b", "b: done before"), f"!cat {LEDGER} {RECORD} | cmp - kept"),
         *(("migrate M b", "b: done before"), ("a", TWO), ("migrate M a", "a: done: INBOX has the mail of b too")),
     ],
+    # both folders have the message that had been gone from it; it goes back from one of them
+    "a_mailbox_was_renamed_and_lost_a_message": [
+        *(("m/b", ONE + TWO), "migrate M m", "!mv m/b m/c", "migrate M m", ("m/c", ONE), "migrate M m"),
+        ("back M m", "m/c: back: 1 message in it again that had been gone from it"),
+    ],
     # the clock was ahead when mail came
     "a_folder_changed_in_the_future_and_mail_goes_back": [
         *(("b", ONE), "migrate M b", "!printf 'Subject: new\\n\\n' >M/new/1.host; touch -d tomorrow M/new"),

@@ -142,15 +142,17 @@ class Findings(NamedTuple):
             by_folder((slot.folder, slot.paths) for mail, slot in found if mail.core != slot.core),
             by_folder((slot.folder, slot.paths) for slot in slots if slot.file.is_held and slot.file.name is None),
             by_folder((mail.folder, mail) for mail, slot in at_home if slot.went_back(State.HELD)),
-            folders_alone(slots),
+            folders_alone(slots, left.values()),
         )
 
 
-def folders_alone(slots: Sequence[Slot]) -> set[bytes]:
-    """The folders from which mail is there that no mailbox has which is still at its path."""
+def folders_alone(slots: Sequence[Slot], new: Iterable[Mail]) -> set[bytes]:
+    """The folders from which mail is there that no mailbox has which is still at its path, and that is not new in
+    another folder: it goes back from there."""
     held, is_gone_once = [slot for slot in slots if slot.file.is_held], functools.lru_cache(maxsize=None)(is_gone)
     gone = [slot for slot in held if slot.file.name and all(map(is_gone_once, slot.paths))]
     others = {slot.core for slot in held if gone and not all(map(is_gone_once, slot.paths))}
+    others.update(mail.core for mail in new if gone)
     return {slot.folder for slot in gone if slot.core not in others}
 
 
