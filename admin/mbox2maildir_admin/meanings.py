@@ -48,7 +48,7 @@ TO_DO = {
     Reason.CHANGED: sentence(Todo.STOP_WRITER.says),
     Reason.NO_FOLDER: (
         "Give it a folder by `--folder NAME`, or run one of its commands. If [two labels have one "
-        "folder](FORMATS.md#a-takeout-of-gmail), remove the link, or leave out one of them"
+        "folder](FORMATS.md#a-takeout-of-gmail), rename it, remove the link, or leave out one of them"
     ),
     Reason.NOT_OWN: "Its command. If there is none, name a folder of the user's own, or run `migrate` as the owner",
     Reason.NO_ROOM: "Make room, or raise the quota, and run the same command again",

@@ -45,7 +45,7 @@ OTHERWISE = "it was migrated with other words about its labels: %s"
 # what is said of a label that is named and that no message has; and of those that are spelled alike
 NOT_THERE, ALIKE = "--label %s=%s: no message that was read has this label", "; spelled alike: %s"
 # each would take the mail of the other for its own
-ONE_PLACE = "its folder is that of %s too: a link leads there, or this disk has one name for both"
+ONE_PLACE = "its folder is that of %s too: it was renamed, a link leads there, or this disk has one name for both"
 # nothing of it would be finished or removed
 ONLY_PREPARED = "mail is only prepared in %s, and --labels is for a Maildir without such mail"
 
