@@ -268,9 +268,8 @@ def a_language_of_an_earlier_takeout(home: Path) -> None:
     takeout(home, [("one", "Posteingang,Ge\u00f6ffnet"), ("two", "Gesendet"), ("four", "Inbox,Wichtig")], "newer")
     takeout(home, [("five", "Inbox,Wichtig"), ("six", "Sent"), ("seven", "Gesendet")], "other")
     expect("migrate --labels M newer other", home, 0, None)
-    there = folders_in(home / "M")
     wanted = {"": ["five", "four", "one"], ".Archive": ["three"], ".Sent": ["six", "two"]}
-    equal("the folders", there, {**wanted, ".Gesendet": ["seven"], ".Wichtig": ["five"]})
+    equal("the folders", folders_in(home / "M"), {**wanted, ".Gesendet": ["seven"], ".Wichtig": ["five"]})
     equal("verify", run("verify M t.mbox newer other", home).status, 0)
 
 
@@ -730,9 +729,8 @@ def folders_that_people_renamed_to_each_other(home: Path) -> None:
         wanted = {name: sorted([*its, *["three"] * ("one" in its)]) for name, its in there.items()}
         equal(f"{count}: the folders", folders_in(maildir), wanted)
         # and once they have their first names again
-        back = [(new, old) for old, new in renamed[:count][::-1]]
-        for old, new in back:
-            (maildir / old).rename(maildir / new)
+        for old, new in renamed[:count][::-1]:
+            (maildir / new).rename(maildir / old)
         wanted = folders_in(maildir)
         for name in ("t.mbox", "beside"):
             expect(f"migrate --labels M{count} {name}", home, 0, "3 mailboxes: 3 done before\n")
