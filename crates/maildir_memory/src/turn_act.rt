@@ -7,8 +7,6 @@ pub enum TurnAct {
     /// What a mail reader may do to any message, or what anybody may do to a file without a
     /// converter's name.
     Reader(Act),
-    /// The same, by renames that a power cut keeps or loses as one change.
-    AtOnce(Act),
     /// Deletes a file, whatever its name.
     Delete(Sub, String),
 }
@@ -16,7 +14,7 @@ pub enum TurnAct {
 impl TurnAct {
     pub(crate) fn perform(&self, folder: &mut MemFolder) -> Result<(), FolderFault> {
         match self {
-            TurnAct::Reader(act) | TurnAct::AtOnce(act) => folder.act(act),
+            TurnAct::Reader(act) => folder.act(act),
             TurnAct::Delete(sub, name) => {
                 folder.delete(*sub, name.as_str());
                 Ok(())
@@ -29,7 +27,7 @@ impl TurnAct {
     pub(crate) fn perform_half(&self, folder: &mut MemFolder) -> Result<(), FolderFault> {
         match self {
             TurnAct::Reader(act) => folder.act_half(act),
-            TurnAct::AtOnce(_) | TurnAct::Delete(_, _) => Ok(()),
+            TurnAct::Delete(_, _) => Ok(()),
         }
     }
 }
