@@ -26,11 +26,7 @@ impl From<io::Error> for OpenFault {
         ⊎ (¬ IsFailedAllocation error × (given ≡ Folder Failed)) };
 
     fn from(error: io::Error) -> OpenFault {
-        if is_failed_allocation(&error) {
-            OpenFault::Folder(FolderFault::OutOfMemory)
-        } else {
-            OpenFault::Folder(FolderFault::Failed)
-        }
+        OpenFault::Folder(fault_of(&error))
     }
 }
 
@@ -44,10 +40,18 @@ pub(crate) fn answer_of<T>(outcome: io::Result<T>) -> Result<T, FolderFault>
     ensures err { OnErr outcome (IsErr result) }
     ensures not_absent { IsNotAbsent result }
 {
-    match outcome {
-        Ok(value) => Ok(value),
-        Err(error) if is_failed_allocation(&error) => Err(FolderFault::OutOfMemory),
-        Err(_) => Err(FolderFault::Failed),
+    outcome.map_err(|error| fault_of(&error))
+}
+
+// The fault of an error.
+fn fault_of(error: &io::Error) -> FolderFault
+    ensures allocation { IsFailedAllocation error.now → result ≡ OutOfMemory }
+    ensures others { ¬ IsFailedAllocation error.now → result ≡ Failed }
+{
+    if is_failed_allocation(error) {
+        FolderFault::OutOfMemory
+    } else {
+        FolderFault::Failed
     }
 }
 
