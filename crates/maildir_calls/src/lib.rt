@@ -33,7 +33,6 @@ pub use calls::Calls;
 pub use files::{create_file, move_file, remove_file};
 pub use maildir::MaildirAt;
 pub use opening::{Held, open_folders};
-pub use own::{FILE_MODE, Facts, check_own, check_same, folder_mode, there_already};
+pub use own::{Facts, check_own};
 pub use paths::Paths;
-pub use stamps::time_of_change;
 pub use syncs::{sync_folder, sync_root};

@@ -8,7 +8,7 @@ use std::io::ErrorKind;
 
 /// The mode of the files that are made. Mail is private: only its owner can read it, whatever the
 /// umask allows.
-pub const FILE_MODE: u32 = 0o600;
+pub(crate) const FILE_MODE: u32 = 0o600;
 
 // What `st_mode` says of the kind of a file: the bits that hold it, a regular file, and a folder.
 const KIND: u32 = 0o170_000;
@@ -18,7 +18,7 @@ const REGULAR: u32 = 0o100_000;
 const FOLDER: u32 = 0o040_000;
 
 /// The mode of the folders that are made.
-pub fn folder_mode() -> u32
+pub(crate) fn folder_mode() -> u32
     ensures { result ≡ 0o700 }
 {
     0o700
@@ -46,7 +46,7 @@ pub struct Facts {
 
 /// The result where a folder could not be made: `false` if a folder is there already, otherwise the
 /// error.
-pub fn there_already(error: io::Error, found: io::Result<Facts>) -> io::Result<bool>
+pub(crate) fn there_already(error: io::Error, found: io::Result<Facts>) -> io::Result<bool>
     ensures there { IfOk found (λ facts. IsFolder facts → result ≡ Ok false) }
     ensures other { IfOk found (λ facts. ¬ IsFolder facts → result ≡ Err error) }
     ensures none { OnErr found (result ≡ Err error) }
@@ -77,7 +77,7 @@ pub fn check_own(found: &Facts, owner: u32) -> io::Result<()>
 /// our own.
 ///
 /// Errors: of the kind `Other`, if the check fails.
-pub fn check_same(opened: &Facts, found: &Facts) -> io::Result<()>
+pub(crate) fn check_same(opened: &Facts, found: &Facts) -> io::Result<()>
     ensures same { IsOk result ↔ IsSameOwn opened.now found.now }
     ensures kind { IfErr result (λ error. error_kind error ≡ ErrorKind.Other) }
 {

@@ -12,7 +12,7 @@ use std::time::{Duration, SystemTime, UNIX_EPOCH};
 /// When the file was last changed.
 ///
 /// Errors: of the kind `Other`, if the file system keeps no such time.
-pub fn time_of_change(found: &Facts) -> io::Result<SystemTime>
+pub(crate) fn time_of_change(found: &Facts) -> io::Result<SystemTime>
     ensures { TellsChange found.now result }
 {
     if found.seconds < 1 || found.nanos < 0 {

@@ -58,7 +58,7 @@ impl From<OpenFault> for Fault {
 
 impl Fault {
     /// The fault of a source that could not be opened.
-    pub fn of_source(error: &io::Error) -> Fault
+    pub(crate) fn of_source(error: &io::Error) -> Fault
         ensures allocation { IsFailedAllocation error.now →
             result ≡ Fault.Run RunFault.OutOfMemory }
         ensures others { ¬ IsFailedAllocation error.now → result ≡ Fault.Source }
@@ -70,7 +70,7 @@ impl Fault {
     }
 
     /// The fault of a folder that could not be synced, after a run that made this many calls of it.
-    pub fn of_sync(fault: FolderFault, calls: u64) -> Fault
+    pub(crate) fn of_sync(fault: FolderFault, calls: u64) -> Fault
         ensures { result ≡ fault_or fault
             (Fault.Run (RunFault.FolderFailed (min (calls + 1) (2 ^ 64 - 1)))) }
     {

@@ -36,5 +36,5 @@ mod sources;
 pub use fault::Fault;
 pub use killed::{Killed, run_killed};
 pub use machine::Machine;
-pub use program::{refuse, run, start};
+pub use program::{run, start};
 pub use sources::deliver;

@@ -23,7 +23,7 @@ use std::io::{BufWriter, Read, Write};
 
 /// Runs the program with the words that it was started with, of which the first is its own name,
 /// and returns the status. If the words could not be read, or a buffer for the output could not be
-/// allocated, it ends as [`refuse`] says, and does nothing else.
+/// allocated, it says so on standard error, ends with status 1 or 2, and does nothing else.
 pub fn start<M: Machine, I: Read, W: Write + Drop, E: Write>(
     machine: &mut M,
     alloc: Global,
@@ -99,9 +99,9 @@ pub fn run<M: Machine, I: Read, W: Write + Drop, E: Write>(
     }
 }
 
-/// Writes to standard error why there are no words, or no buffer for the output, and returns the
-/// status: 1 if an allocation failed, otherwise 2, since words that are not UTF-8 are of no form.
-pub fn refuse<E: Write>(error: &io::Error, err: &mut E) -> u8
+// Writes to standard error why there are no words, or no buffer for the output, and returns the
+// status: 1 if an allocation failed, otherwise 2, since words that are not UTF-8 are of no form.
+fn refuse<E: Write>(error: &io::Error, err: &mut E) -> u8
     ensures { RefusesWords error.now result (E.contents err.old) (E.contents err.new) }
 {
     if is_failed_allocation(error) {
