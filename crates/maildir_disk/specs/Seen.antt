@@ -1,5 +1,5 @@
 -- What is seen of a Maildir on a file system, and what a sync of it does.
-use Rattle.std.specs.Prelude.{IsFalse, OnOk, Result}
+use Rattle.std.specs.Prelude.{◌≡◌, IsErr, IsFalse, IsTrue, OnOk, Result}
 use Rattle.maildir_run.specs.Cuts.{Follows}
 use Rattle.maildir_run.specs.Files.{Honestly}
 use Rattle.maildir_run.specs.Seen.{Seen}
@@ -34,6 +34,12 @@ seen_of f folder = record {
   calls = folder.calls;
   failures = folder.failures;
 }
+
+-- If a sync of a folder had failed before this call, the call answers a fault and leaves the system as it is, and so does each call after it.
+pub record StaysFailed {S A E : Type 0} (old : DiskFolder S) (result : Result A E) (new : DiskFolder S) : Type 0 where
+  pub refused : IsTrue old.sync_failed → IsErr result
+  pub system : IsTrue old.sync_failed → new.system ≡ old.system
+  pub still : IsTrue old.sync_failed → IsTrue new.sync_failed
 
 -- The system was asked to keep what `new`, `cur`, the Maildir and its parent name, and answered this.
 pub record SyncsMaildir {A E : Type 0} (old : SeenSystem) (result : Result A E) (new : SeenSystem) : Type 0 where

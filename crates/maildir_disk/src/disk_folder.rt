@@ -1,17 +1,17 @@
 // A Maildir on a file system, as a folder for runs.
-ghost use Rattle.std.specs.Prelude.{◌≡◌, IfErr, IsErrOf, IsFalse, IsOk, OnOk, is_err};
+ghost use Rattle.std.specs.Prelude.{◌≡◌, IfErr, IsErrOf, IsFalse, IsTrue, OnErr, OnOk, is_err};
 ghost use Rattle.std.specs.IoError.{error_kind};
 ghost use Rattle.maildir_run.specs.Calls.{IsNotAbsent};
 ghost use Rattle.maildir_run.specs.Calls.Call.{Placing, Removing, Writing};
 ghost use Rattle.maildir_run.specs.Cuts.{Follows};
 ghost use Rattle.maildir_run.specs.Files.{Honestly};
 ghost use Rattle.maildir_run.specs.Folders.{folder_of_place};
-ghost use Rattle.maildir_run.specs.Seen.{CallOf};
+ghost use Rattle.maildir_run.specs.Seen.{CallOf, ListingOf};
 ghost use Rattle.maildir_disk.specs.Placing.{WasGone};
 ghost use Rattle.maildir_disk.specs.PowerCuts.{KeepsNames};
 ghost use Rattle.maildir_disk.specs.Private.Effects.{Counts, SameCounts, TakesEffect};
 ghost use Rattle.maildir_disk.specs.Private.Look.{ReadsDurably};
-ghost use Rattle.maildir_disk.specs.Seen.{SyncsMaildir, seen_of, system_of};
+ghost use Rattle.maildir_disk.specs.Seen.{StaysFailed, SyncsMaildir, seen_of, system_of};
 ghost use Rattle.maildir_disk.specs.SeenSystem.{Looks};
 
 use crate::faults::answer_of;
@@ -70,6 +70,8 @@ impl<S: System> DiskFolder<S> {
         ensures syncs { SyncsMaildir (system_of S.System self.old) result
             (system_of S.System self.new) }
         ensures none_failed { OnOk result (IsFalse self.new.sync_failed) }
+        ensures fails { OnErr result (IsTrue self.new.sync_failed) }
+        ensures failed { StaysFailed self.old result self.new }
         ensures calls { self.new.calls ≡ self.old.calls }
         ensures failures { self.new.failures ≡ self.old.failures }
         ensures not_absent { IsNotAbsent result }
@@ -77,10 +79,13 @@ impl<S: System> DiskFolder<S> {
         answer_of(self.sync_all())
     }
 
+    #[tactic(auto, using(crate::proofs::Calls::Refused::failed_rules))]
     fn sync_all(&mut self) -> io::Result<()>
         ensures syncs { SyncsMaildir (system_of S.System self.old) result
             (system_of S.System self.new) }
         ensures none_failed { OnOk result (IsFalse self.new.sync_failed) }
+        ensures fails { OnErr result (IsTrue self.new.sync_failed) }
+        ensures failed { StaysFailed self.old result self.new }
         ensures counts { SameCounts self.old self.new }
     {
         self.may_call()?;
@@ -98,7 +103,7 @@ impl<S: System> DiskFolder<S> {
             KeepsNames spared (folder_of_place place) (S.at self.old.system).world.files before
             (S.at self.new.system).world.files left)
             (S.at self.old.system).may_leave (S.at self.new.system).may_leave)) }
-        ensures none_failed { OnOk result (IsFalse self.new.sync_failed) }
+        ensures failed { self.new.sync_failed ≡ is_err result }
         ensures counts { SameCounts self.old self.new }
     {
         let outcome = self.system.sync_folder(place);
@@ -111,7 +116,7 @@ impl<S: System> DiskFolder<S> {
         ensures looks { Looks (system_of S.System self.old) (system_of S.System self.new) }
         ensures rooted { Honestly (system_of S.System self.old).honest (λ _.
             OnOk result (S.at self.new.system).rooted) }
-        ensures none_failed { OnOk result (IsFalse self.new.sync_failed) }
+        ensures failed { self.new.sync_failed ≡ is_err result }
         ensures counts { SameCounts self.old self.new }
     {
         let outcome = self.system.sync_root();
@@ -130,7 +135,7 @@ impl<S: System> DiskFolder<S> {
     // An error if a sync has failed: then no call is made.
     fn may_call(&self) -> io::Result<()>
         ensures none_failed { OnOk result (IsFalse self.now.sync_failed) }
-        ensures may { IsFalse self.now.sync_failed → IsOk result }
+        ensures failed { self.now.sync_failed ≡ is_err result }
         ensures kind { IfErr result (λ error. error_kind error ≡ ErrorKind.Other) }
     {
         if self.sync_failed {
@@ -143,9 +148,11 @@ impl<S: System> DiskFolder<S> {
     // The names of one moment. If the folder can have messages, it is synced after its names were
     // read. A file that a mail reader deleted, and that the names do not show, is then gone from
     // the disk too, so that no power cut brings it back beside the one that a run places.
+    #[tactic(auto, using(crate::proofs::Calls::Refused::failed_rules))]
     fn durable_names(&mut self, sub: Sub) -> io::Result<Vec<String>>
         ensures reads { ReadsDurably sub (system_of S.System self.old) result
             (system_of S.System self.new) }
+        ensures failed { StaysFailed self.old result self.new }
         ensures counts { SameCounts self.old self.new }
     {
         self.may_call()?;
@@ -159,9 +166,11 @@ impl<S: System> DiskFolder<S> {
     }
 
     // Writes and syncs a file of `tmp`.
+    #[tactic(auto, using(crate::proofs::Calls::Refused::failed_rules))]
     fn write_file(&mut self, name: &str, bytes: &[u8]) -> io::Result<()>
         ensures did { TakesEffect (Writing name.now bytes.now) (system_of S.System self.old) result
             (system_of S.System self.new) }
+        ensures failed { StaysFailed self.old result self.new }
         ensures counts { SameCounts self.old self.new }
     {
         self.may_call()?;
@@ -169,6 +178,7 @@ impl<S: System> DiskFolder<S> {
     }
 
     // Moves a file out of `tmp`.
+    #[tactic(auto, using(crate::proofs::Calls::Refused::failed_rules))]
     fn rename(&mut self, name: &str, place: Place, target: &str) -> io::Result<()>
         ensures did { TakesEffect (Placing name.now place target.now)
             (system_of S.System self.old) result (system_of S.System self.new) }
@@ -176,6 +186,7 @@ impl<S: System> DiskFolder<S> {
             IfErr result (λ error. error_kind error ≡ ErrorKind.NotFound →
             WasGone spared name.now (Placing name.now place target.now)
             (S.at self.old.system).world.files (S.at self.new.system).world.files)) }
+        ensures failed { StaysFailed self.old result self.new }
         ensures counts { SameCounts self.old self.new }
     {
         self.may_call()?;
@@ -183,9 +194,11 @@ impl<S: System> DiskFolder<S> {
     }
 
     // Removes a file of `tmp`.
+    #[tactic(auto, using(crate::proofs::Calls::Refused::failed_rules))]
     fn unlink(&mut self, name: &str) -> io::Result<()>
         ensures did { TakesEffect (Removing name.now) (system_of S.System self.old) result
             (system_of S.System self.new) }
+        ensures failed { StaysFailed self.old result self.new }
         ensures counts { SameCounts self.old self.new }
     {
         self.may_call()?;
@@ -207,12 +220,20 @@ impl<S: System> DiskFolder<S> {
 impl<S: System> Folder for DiskFolder<S> {
     ghost at = { seen_of S.System };
 
-    fn list(&mut self, sub: Sub) -> Result<Vec<String>, FolderFault> {
+    fn list(&mut self, sub: Sub) -> Result<Vec<String>, FolderFault>
+        ensures lists { ListingOf sub (seen_of S.System self.old) result
+            (seen_of S.System self.new) }
+        ensures failed { StaysFailed self.old result self.new }
+    {
         let answer = answer_of(self.durable_names(sub));
         self.count_call(answer)
     }
 
-    fn write(&mut self, name: &str, bytes: &[u8]) -> Result<(), FolderFault> {
+    fn write(&mut self, name: &str, bytes: &[u8]) -> Result<(), FolderFault>
+        ensures writes { CallOf (Writing name.now bytes.now)
+            (seen_of S.System self.old) result (seen_of S.System self.new) }
+        ensures failed { StaysFailed self.old result self.new }
+    {
         let answer = answer_of(self.write_file(name, bytes));
         self.count_call(answer)
     }
@@ -225,6 +246,7 @@ impl<S: System> Folder for DiskFolder<S> {
             WasGone spared name.now (Placing name.now place target.now)
             (S.at self.old.system).world.files
             (S.at self.new.system).world.files) }
+        ensures failed { StaysFailed self.old result self.new }
     {
         let answer = match self.rename(name, place, target) {
             Err(error) if error.kind() == ErrorKind::NotFound => Err(FolderFault::Absent),
@@ -233,7 +255,11 @@ impl<S: System> Folder for DiskFolder<S> {
         self.count_call(answer)
     }
 
-    fn remove(&mut self, name: &str) -> Result<(), FolderFault> {
+    fn remove(&mut self, name: &str) -> Result<(), FolderFault>
+        ensures removes { CallOf (Removing name.now)
+            (seen_of S.System self.old) result (seen_of S.System self.new) }
+        ensures failed { StaysFailed self.old result self.new }
+    {
         let answer = answer_of(self.unlink(name));
         self.count_call(answer)
     }
