@@ -4,12 +4,12 @@ use Rattle.std.proofs.Common.{refl, sym, subst, inl, inr, arith}
 use Rattle.std.specs.FinMap.{empty, get-empty}
 use Rattle.std.proofs.lemmas.List.Sorted.{IsPermutation-trans}
 use Rattle.maildir_commands.proofs.Common.{All-contains, All-take, AllSpared, AreAlike, AreAllSafe, AreAt, AreFit, AreIntact, Bytes, Files, HasBody}
-use Rattle.maildir_commands.proofs.Common.{HasItsMessages, HeldMaildir, IsIntact, IsSafeIn, IsSoundFor, Mailbox, OthersStay, Rests, SeenMachine}
+use Rattle.maildir_commands.proofs.Common.{HasItsMessages, HeldMaildir, IsIntact, IsSafeIn, IsSoundFor, Text, OthersStay, Rests, SeenMachine}
 use Rattle.maildir_commands.proofs.Common.{SeenProgram, Spared, Stays}
 use Rattle.maildir_commands.proofs.Common.{cases_order, is_spared, spared_named}
 use Rattle.maildir_run.specs.Delivery.{Message, IsMissing, IsSoundAt, IsSwept}
 use Rattle.maildir_run.specs.Files.{name_cmp}
-use Rattle.maildir_run.specs.MemFiles.{no_files}
+use Rattle.maildir_run.specs.Files.{no_files}
 use Rattle.maildir_run.proofs.Call.Moves.{held_none, homes_one}
 use Rattle.maildir_run.proofs.Chains.Chains.{chain_keeps, chain_parts}
 use Rattle.maildir_disk.proofs.Kept.Sound.{moved_sound}
@@ -24,8 +24,8 @@ use Rattle.maildir_commands.proofs.Resting.{rest_same}
 use Rattle.maildir_commands.proofs.Several.{rest_all_safe, rest_sound, safe_stay, stay_both, stay_rest}
 
 -- ---- some of the texts
-module _ (texts named : List Mailbox) (among : All (Contains texts) named) where
-  all_among : (P : Mailbox → Type 0) → All P texts → All P named
+module _ (texts named : List Text) (among : All (Contains texts) named) where
+  all_among : (P : Text → Type 0) → All P texts → All P named
   all_among P all k d below = All-contains P texts (get_or named k d) all (among k d below)
 
   fit_among : AreFit texts → AreFit named
@@ -48,16 +48,16 @@ module _ (texts named : List Mailbox) (among : All (Contains texts) named) where
 none_at_all : (m : Message) → IsMissing no_files m
 none_at_all m = rw (held_none m.target.base empty (λ q on. get-empty {X = List ℕ} name_cmp q)) refl
 
-pub sound_new : {spared : Spared} {texts : List Mailbox} {maildir : HeldMaildir} → IsNewTo spared texts maildir → IsSoundFor spared texts maildir
+pub sound_new : {spared : Spared} {texts : List Text} {maildir : HeldMaildir} → IsNewTo spared texts maildir → IsSoundFor spared texts maildir
 sound_new new = record { sound = λ k d below j e inside sp. inl (new.missing k d below j e inside sp); intact = new.intact }
 
 -- ---- from one moment to another
 -- The texts stay sound, and those that are safe stay safe.
-record Goes (spared : Spared) (texts : List Mailbox) (old new : HeldMaildir) : Type 0 where
+record Goes (spared : Spared) (texts : List Text) (old new : HeldMaildir) : Type 0 where
   pub sound : IsSoundFor spared texts new
-  pub safe : (text : Mailbox) → Contains texts text → IsSafeIn spared old text → IsSafeIn spared new text
+  pub safe : (text : Text) → Contains texts text → IsSafeIn spared old text → IsSafeIn spared new text
 
-module _ {spared : Spared} {texts : List Mailbox} (fit : AreFit texts) {old new : HeldMaildir} (sound : IsSoundFor spared texts old) where
+module _ {spared : Spared} {texts : List Text} (fit : AreFit texts) {old new : HeldMaildir} (sound : IsSoundFor spared texts old) where
   goes_on : OthersStay spared texts old new → (old.rooted → new.rooted) → Goes spared texts old new
   goes_on stay found =
       let stays : All (λ text. Stays spared text.messages old.files old.may_leave new.files new.may_leave) texts =
@@ -68,7 +68,7 @@ module _ {spared : Spared} {texts : List Mailbox} (fit : AreFit texts) {old new 
           intact = λ k d below. (stays k d below).intact (sound.intact k d below);
         };
         safe = λ text among.
-            safe_stay old new (All-contains (λ (t : Mailbox). Stays spared t.messages old.files old.may_leave new.files new.may_leave) texts text stays among)
+            safe_stay old new (All-contains (λ (t : Text). Stays spared t.messages old.files old.may_leave new.files new.may_leave) texts text stays among)
             found;
       }
 
@@ -77,7 +77,7 @@ module _ {spared : Spared} {texts : List Mailbox} (fit : AreFit texts) {old new 
 
   -- ---- a power cut
   module _ (cut : LeftByPowerCut spared old new) where
-    left_intact : (k : ℕ) (d : Mailbox) → k < length texts → AllSpared spared (IsIntact spared cut.left) (get_or texts k d).messages
+    left_intact : (k : ℕ) (d : Text) → k < length texts → AllSpared spared (IsIntact spared cut.left) (get_or texts k d).messages
     left_intact k d below j e inside sp = elim cut.may as (λ _. IsIntact spared cut.left (get_or (get_or texts k d).messages j e)) [
       | inl may ↦ sound.intact k d below cut.left may j e inside sp
       | inr gone ↦ subst (λ left. IsIntact spared left (get_or (get_or texts k d).messages j e)) (sym gone.1)
@@ -106,7 +106,7 @@ module _ {spared : Spared} {texts : List Mailbox} (fit : AreFit texts) {old new 
       safe = λ text among safe.
           let all = named_of (All-contains HasItsMessages texts text fit.are among) in
           let intacts : AllSpared spared (IsIntact spared cut.left) text.messages =
-          All-contains (λ (t : Mailbox). AllSpared spared (IsIntact spared cut.left) t.messages) texts text left_intact among in
+          All-contains (λ (t : Text). AllSpared spared (IsIntact spared cut.left) t.messages) texts text left_intact among in
           let bodies : AllSpared spared (HasBody cut.left) text.messages = elim cut.may as (λ _. AllSpared spared (HasBody cut.left) text.messages) [
             | inl may ↦ safe.survive cut.left may
             | inr gone ↦ absurd (gone.0 safe.is_rooted)
@@ -129,7 +129,7 @@ module _ (spared : Spared) {M : Type 0} (seen : M → SeenMachine)
     (alike : (machine : M) (word other : List ℕ) → (seen machine).same word other → AreAt spared ((seen machine).maildir_at word)
     ((seen machine).maildir_at other))
     (still : (one next : M) (word other : List ℕ) → (seen one).same word other → (seen next).same word other)
-    (maildir : List ℕ) (texts : List Mailbox) where
+    (maildir : List ℕ) (texts : List Text) where
   abbrev at : M → HeldMaildir
   at m = (seen m).maildir_at maildir
 
@@ -139,8 +139,8 @@ module _ (spared : Spared) {M : Type 0} (seen : M → SeenMachine)
 
   module _ (fit : AreFit texts) where
     -- what a command left of these texts goes with the Maildir, as long as they stay safe
-    left_on : {these : List Mailbox} {status : ℕ} {was is : Bytes} {old new : M} → All (Contains texts) these → IsSoundFor spared texts (at new)
-        → ((some : List Mailbox) → All (Contains texts) some → AreAllSafe spared some (at old) → AreAllSafe spared some (at new))
+    left_on : {these : List Text} {status : ℕ} {was is : Bytes} {old new : M} → All (Contains texts) these → IsSoundFor spared texts (at new)
+        → ((some : List Text) → All (Contains texts) some → AreAllSafe spared some (at old) → AreAllSafe spared some (at new))
         → LeftByCommand spared these status was is (at old) → LeftByCommand spared these status was is (at new)
     left_on {these} among sound on left = record {
       sound = sound_among texts these among sound;
@@ -165,14 +165,14 @@ module _ (spared : Spared) {M : Type 0} (seen : M → SeenMachine)
       ]
 
     -- What a conversion leaves that was to deliver these texts.
-    record Leaves (these : List Mailbox) (status : ℕ) (was is : Bytes) (old new : M) : Type 0 where
+    record Leaves (these : List Text) (status : ℕ) (was is : Bytes) (old new : M) : Type 0 where
       pub among : All (Contains texts) these
       pub stay : OthersStay spared texts (at old) (at new)
       pub still_rooted : (at old).rooted → (at new).rooted
       pub left : LeftByCommand spared these status was is (at new)
       pub swept : status ≡ 0 → IsSwept spared (at new).files
 
-    leaves : {these : List Mailbox} {status : ℕ} {was is : Bytes} {old new : M}
+    leaves : {these : List Text} {status : ℕ} {was is : Bytes} {old new : M}
         → Commanded spared seen (IsToDeliver maildir texts these) status was is old new → IsWell old → Leaves these status was is old new
     leaves {these} {old = old} {new = new} ran well =
         let (into, files, words, same, given, among) = ran.asked in
@@ -241,7 +241,7 @@ module _ (spared : Spared) {M : Type 0} (seen : M → SeenMachine)
         (stay_episode episode old mid (λ same. uncut (zero, omega arith, same)) well first)
         (stay_through episodes mid new (λ (k, below, same). uncut (suc k, omega (arith, below), same)) (well_after episode old mid well first) rest)
 
-    safe_through : (these : List Mailbox) → All (Contains texts) these → (episodes : List Episode) (old new : M) → IsWell old × AreAllSafe spared these (at old)
+    safe_through : (these : List Text) → All (Contains texts) these → (episodes : List Episode) (old new : M) → IsWell old × AreAllSafe spared these (at old)
         → IsHistory spared seen maildir texts episodes old new → IsWell new × AreAllSafe spared these (at new)
     safe_through these among = chain_keeps (LeadsTo spared seen maildir texts) (λ m. IsWell m × AreAllSafe spared these (at m)) (λ episode a b is happens. (
       well_after episode a b is.0 happens,
@@ -249,7 +249,7 @@ module _ (spared : Spared) {M : Type 0} (seen : M → SeenMachine)
     ))
 
     -- what a conversion of a history left is still so at its end
-    left_at_end : {these : List Mailbox} {status : ℕ} {was is : Bytes} (episodes : List Episode) (old new : M) → IsWell old
+    left_at_end : {these : List Text} {status : ℕ} {was is : Bytes} (episodes : List Episode) (old new : M) → IsWell old
         → IsHistory spared seen maildir texts episodes old new → Contains episodes (Conversion these status was is)
         → LeftByCommand spared these status was is (at new)
     left_at_end [] old new well chain (k, below, same) = absurd (omega (arith, below))
@@ -268,7 +268,7 @@ module _ (spared : Spared) {M : Type 0} (seen : M → SeenMachine)
     well_at : IsWell old
     well_at = (any.as_assumed, any.sound)
 
-    swept_at : (earlier : List Episode) (these : List Mailbox) (was is : Bytes)
+    swept_at : (earlier : List Episode) (these : List Text) (was is : Bytes)
         → IsHistory spared seen maildir texts (earlier ++ (Conversion these 0 was is ∷ [])) old new → IsSwept spared (at new).files
     swept_at earlier these was is come =
         let parts = chain_parts (LeadsTo spared seen maildir texts) earlier (Conversion these 0 was is ∷ []) old new come in

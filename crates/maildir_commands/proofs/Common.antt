@@ -31,7 +31,7 @@ pub use Rattle.maildir_run.specs.Foreign.{KeepsForeign}
 pub use Rattle.maildir_run.specs.Output.{GivesAll, GivesNothing, GivesPrefix, WritesMessages}
 pub use Rattle.maildir_run.specs.Reading.{IsReading, ReadsAtLeast, ReadsAtMost}
 pub use Rattle.maildir_run.specs.Runs.{IsReportOf, Possible, ReportsMessages}
-pub use Rattle.maildir_run.specs.Several.{Mailbox}
+pub use Rattle.maildir_run.specs.Several.{Text}
 pub use Rattle.maildir_run.specs.Touched.{TouchedConverters}
 pub use Rattle.maildir_run.specs.declared.fault.RunFault.{RunFault}
 pub use Rattle.maildir_run.specs.declared.report.Report.{Report}

@@ -1,7 +1,7 @@
 -- A conversion: sources are opened, then the Maildir, which is closed once they were delivered.
 use Rattle.std.proofs.Common.{◌≡◌, ◌⊎◌, ◌<◌, ℕ, List, [], ◌∷◌, length, map, max, Some, Result, Ok, Err, IfErr, OnOk, refl, sym, ap, subst, ◌∙◌, arith}
 use Rattle.maildir_commands.proofs.Common.{AreFit, Bytes, ClosesMaildir, DeliversTexts, DeliversFiles, DeliversSource, Serves, Fault, GivesTexts, IfErr-weaker}
-use Rattle.maildir_commands.proofs.Common.{IsCauseOf, IsSoundFor, KeepsForeign, Mailbox, OpenFault, OpensMaildir, OpensSources, Possible, PrintsReports}
+use Rattle.maildir_commands.proofs.Common.{IsCauseOf, IsSoundFor, KeepsForeign, Text, OpenFault, OpensMaildir, OpensSources, Possible, PrintsReports}
 use Rattle.maildir_commands.proofs.Common.{Run, SeenMachine, SeenMaildir, Source, ToConvert, TouchedConverters, bytes_of, fault_of_opening, opened}
 use Rattle.maildir_commands.proofs.Common.{Untouched, seen_folder, seen_with, Spared, all_bases}
 use Rattle.maildir_run.specs.declared.fault.RunFault.TheVariants as run
@@ -41,14 +41,14 @@ source_refused {maildir} {first = first} {rest} {old} {input = input} {was} {fau
 
 -- what standard input had was delivered
 input_delivered : (spared : Spared) {before after was is : Bytes} {old new : SeenMaildir} {answer : Result Unit Fault}
-    → DeliversSource answer before after was is old new → old.honest spared → (texts : List Mailbox) {text : Mailbox} → texts ≡ text ∷ []
+    → DeliversSource answer before after was is old new → old.honest spared → (texts : List Text) {text : Text} → texts ≡ text ∷ []
     → Possible before after text.bytes → AreFit texts → IsSoundFor spared texts old.held → DeliversTexts spared answer texts old.held new.held was is
 input_delivered spared {before} {after} {was} {is} {answer = answer} did h texts one possible fit sound =
     let many : length texts ≡ 1 = ap length one in
     let inside : 0 < length texts = omega (arith, many) in
     one_delivered answer fit one sound
     (one_of spared was is h (text_at texts 0) (fit.are 0 _ inside)
-    (subst (λ (t : Mailbox). Possible before after t.bytes) (sym (ap (λ ts. text_at ts 0) one)) possible)
+    (subst (λ (t : Text). Possible before after t.bytes) (sym (ap (λ ts. text_at ts 0) one)) possible)
     (sound.sound 0 _ inside) (sound.intact 0 _ inside) did)
 
 module _ {M S File : Type 0} (seen : M → SeenMachine) (f : Ghosts S File)
@@ -81,7 +81,7 @@ module _ {M S File : Type 0} (seen : M → SeenMachine) (f : Ghosts S File)
       (closing : ClosesMaildir maildir (opened f now.system) (seen work) (seen new))
       (each : OpensSources (seen ready) (seen work)) where
     converted : OnOk answer (PrintsReports was is (max 1 (length files)))
-        → Honestly (seen old).honest (λ spared. (texts : List Mailbox) → GivesTexts (seen old).text_of input left files texts → AreFit texts
+        → Honestly (seen old).honest (λ spared. (texts : List Text) → GivesTexts (seen old).text_of input left files texts → AreFit texts
         → IsSoundFor spared texts (opened f start.system).held
         → DeliversTexts spared answer texts (opened f start.system).held (opened f now.system).held was is)
         → TouchedConverters (opened f start.system).held.touched (opened f now.system).held.touched

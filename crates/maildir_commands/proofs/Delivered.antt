@@ -1,13 +1,13 @@
 -- What came of delivering several texts.
 use Rattle.std.proofs.Common.{◌≡◌, ◌+◌, ◌<◌, ◌≤◌, ℕ, List, [], ◌∷◌, length, All, Result, Ok, Err, ap, arith}
-use Rattle.maildir_commands.proofs.Common.{AreFit, Bytes, DeliversTexts, DeliversOne, HasItsMessages, HeldMaildir, IsSoundFor, Keeps-refl, Mailbox}
+use Rattle.maildir_commands.proofs.Common.{AreFit, Bytes, DeliversTexts, DeliversOne, HasItsMessages, HeldMaildir, IsSoundFor, Keeps-refl, Text}
 use Rattle.maildir_commands.proofs.Common.{Rests, Spared}
 use Rattle.maildir_commands.proofs.Known.{swept_rests}
 use Rattle.maildir_commands.proofs.Several.{UpTo, all_each, all_safe, none_printed, none_some, on_err_then, on_ok_then, one_more, rest_all_safe}
 use Rattle.maildir_commands.proofs.Several.{rest_each, rest_some, rest_sound, sound_more, stay_both, stay_more}
 use Rattle.maildir_commands.proofs.Several.{stay_rest, stopped_between, text_at, then_stopped}
 
-module _ {spared : Spared} (texts : List Mailbox) (are : All HasItsMessages texts) where
+module _ {spared : Spared} (texts : List Text) (are : All HasItsMessages texts) where
   -- nothing was opened, or written
   pub none_delivered : {A E : Type 0} {fault : E} {old new : HeldMaildir} {was : Bytes}
       → Rests spared old new → IsSoundFor spared texts old → DeliversTexts {A = A} spared (Err fault) texts old new was was
@@ -34,7 +34,7 @@ module _ {spared : Spared} (texts : List Mailbox) (are : All HasItsMessages text
     sound = rest_sound texts are closes did.sound;
   }
 
-module _ {spared : Spared} {texts : List Mailbox} {start now : HeldMaildir} {was mid : Bytes} {n : ℕ} (up : UpTo spared n texts start now was mid) where
+module _ {spared : Spared} {texts : List Text} {start now : HeldMaildir} {was mid : Bytes} {n : ℕ} (up : UpTo spared n texts start now was mid) where
   -- all of them
   pub all_delivered : {A E : Type 0} {value : A} → 0 < n → length texts ≤ n → DeliversTexts {E = E} spared (Ok value) texts start now was mid
   all_delivered one most = record {
@@ -71,7 +71,7 @@ module _ {spared : Spared} {texts : List Mailbox} {start now : HeldMaildir} {was
     more_delivered one = one_more fit inside up one one.safe one.line one.known one.swept
 
 -- where one text is all
-pub one_delivered : {spared : Spared} {A E : Type 0} (answer : Result A E) {texts : List Mailbox} → AreFit texts → {text : Mailbox} → texts ≡ text ∷ []
+pub one_delivered : {spared : Spared} {A E : Type 0} (answer : Result A E) {texts : List Text} → AreFit texts → {text : Text} → texts ≡ text ∷ []
     → {start now : HeldMaildir} {was is : Bytes} → IsSoundFor spared texts start
     → DeliversOne spared answer (text_at texts 0) start now was is → DeliversTexts spared answer texts start now was is
 one_delivered (Ok x) {texts} fit one sound did =

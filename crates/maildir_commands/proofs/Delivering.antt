@@ -1,7 +1,7 @@
 -- What the delivery of one source owes, as the work goes on.
 use Rattle.std.proofs.Common.{◌≡◌, ◌⊎◌, ℕ, List, [], Result, Ok, Err, IfErr, IsErrAnd, inl, inr, subst, sym}
 use Rattle.maildir_commands.proofs.Common.{All-head, AllSpared, Appends, Appends-kept, AppendsPrefix, AreAlike, AreIntact, Bytes, DeliversOne, DeliversSource}
-use Rattle.maildir_commands.proofs.Common.{Fault, HasItsMessages, Keeps-refl, KeepsSource, Mailbox, Possible, PrintsOne, PrintsReport, Report, Run}
+use Rattle.maildir_commands.proofs.Common.{Fault, HasItsMessages, Keeps-refl, KeepsSource, Text, Possible, PrintsOne, PrintsReport, Report, Run}
 use Rattle.maildir_commands.proofs.Common.{SeenMaildir, Spared}
 use Rattle.maildir_commands.proofs.Common.{StopsSource, StoresSource, report_line}
 use Rattle.std.specs.Io.KnownBytes.{Keeps}
@@ -46,7 +46,7 @@ line_handed was given kept line keeps gave (Err fault) = prefix_of_all was kept 
 
 -- ---- a text that the source may have had, and for which the Maildir is sound
 module _ (spared : Spared) (was is : Bytes) {before after : Bytes} {old new : SeenMaildir} (h : old.honest spared)
-    (text : Mailbox) (are : HasItsMessages text) (possible : Possible before after text.bytes)
+    (text : Text) (are : HasItsMessages text) (possible : Possible before after text.bytes)
     (sound : AllSpared spared (IsSoundAt old.held.files) text.messages) (intact : AreIntact spared text.messages old.held.may_leave) where
   one_stopped : Keeps was is ⊎ ((report : Report) × StoresSource report before after old new × AppendsPrefix was is (report_line report))
       → Keeps was is ⊎ PrintsOne spared old.held new.held text was is
@@ -70,6 +70,6 @@ module _ (spared : Spared) (was is : Bytes) {before after : Bytes} {old new : Se
         swept = on_ok_then answer (λ printed. (stores printed).swept) did.printed;
         stopped = on_err_then answer one_stopped did.prefix;
         stays = λ others named alike.
-            (did.keeps.texts spared h text are possible).stays sound others named (All-head (λ (t : Mailbox). AreAlike others t.messages) text [] alike);
+            (did.keeps.texts spared h text are possible).stays sound others named (All-head (λ (t : Text). AreAlike others t.messages) text [] alike);
         still_rooted = did.keeps.still_rooted spared h;
       }

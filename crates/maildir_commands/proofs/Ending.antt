@@ -2,7 +2,7 @@
 use Rattle.std.proofs.Common.{◌≡◌, ℕ, suc, zero, List, [], ◌∷◌, length, take, codes, Bool, OnOk, Result, Ok, Err, refl, sym, ap, subst, arith}
 use Rattle.std.specs.Io.KnownBytes.{Keeps}
 use Rattle.maildir_run.specs.Delivery.{IsSwept}
-use Rattle.maildir_commands.proofs.Common.{AreAllSafe, AreReportsOf, AskFor, Bytes, DeliversTexts, Did, Fault, HeldMaildir, IsOther, Mailbox, PrintsSome}
+use Rattle.maildir_commands.proofs.Common.{AreAllSafe, AreReportsOf, AskFor, Bytes, DeliversTexts, Did, Fault, HeldMaildir, IsOther, Text, PrintsSome}
 use Rattle.maildir_commands.proofs.Common.{Report, Request, SeenMachine, SeenProgram, Serves, Spared, ToConvert, ToWrite, also, seen_at}
 use Rattle.maildir_commands.specs.Commands.{ChangesMaildirs, Delivers, IsElsewhere, LeftByCommand, OfConversion, PrintedSafely}
 use Rattle.maildir_commands.specs.Faults.{fault_text, told}
@@ -13,20 +13,20 @@ use Rattle.maildir_commands.proofs.Forms.{one_request}
 use Rattle.maildir_commands.proofs.Resting.{rest_same}
 
 -- ---- the first of some texts
-as_many : (spared : Spared) (has : List ℕ → Bool) (left : ℕ) (reports : List Report) (texts : List Mailbox)
+as_many : (spared : Spared) (has : List ℕ → Bool) (left : ℕ) (reports : List Report) (texts : List Text)
     → AreReportsOf spared has left texts reports → length reports ≡ length texts
 as_many spared has left [] [] is = refl
 as_many spared has left [] (text ∷ texts) is = absurd is
 as_many spared has left (report ∷ reports) [] is = absurd is
 as_many spared has left (report ∷ reports) (text ∷ texts) (first, rest) = ap suc (as_many spared (also has text) 0 reports texts rest)
 
-take_of_take : (n : ℕ) (texts : List Mailbox) → take (length (take n texts)) texts ≡ take n texts
+take_of_take : (n : ℕ) (texts : List Text) → take (length (take n texts)) texts ≡ take n texts
 take_of_take zero [] = refl
 take_of_take (suc n) [] = refl
 take_of_take zero (text ∷ texts) = refl
 take_of_take (suc n) (text ∷ texts) = ap (λ ts. text ∷ ts) (take_of_take n texts)
 
-pub some_safely : {spared : Spared} {old new : HeldMaildir} {texts : List Mailbox} {was is : Bytes} → PrintsSome spared old new texts was is
+pub some_safely : {spared : Spared} {old new : HeldMaildir} {texts : List Text} {was is : Bytes} → PrintsSome spared old new texts was is
     → PrintedSafely spared texts was is new
 some_safely {spared} {new = new} {texts} some =
     let count : length some.reports ≡ length (take some.n texts) = as_many spared _ _ some.reports (take some.n texts) some.true_of in
@@ -42,7 +42,7 @@ abbrev pub IsStatusOf : {A E : Type 0} → Result A E → ℕ → Type 0
 IsStatusOf (Ok _) status = status ≡ 0
 IsStatusOf (Err _) status = status ≡ 1
 
-module _ {spared : Spared} {status : ℕ} {texts : List Mailbox} {old new : HeldMaildir} {was is : Bytes} where
+module _ {spared : Spared} {status : ℕ} {texts : List Text} {old new : HeldMaildir} {was is : Bytes} where
   left_as : {A E : Type 0} (answer : Result A E) → IsStatusOf answer status → DeliversTexts spared answer texts old new was is
       → LeftByCommand spared texts status was is new
   left_as (Ok x) done did = record { sound = did.sound; safe = λ _. did.safe; printed = λ one. absurd (omega (arith, done, one)) }

@@ -1,7 +1,7 @@
 -- What is said of a history where more messages are spared holds where fewer are.
 use Rattle.std.proofs.Common.{ℕ, List, [], ◌∷◌, IsTrue, inl, inr, sym, ◌∙◌, arith}
 use Rattle.maildir_run.specs.Files.{AreFewer, Files, KeepsHomes, Spared, acted}
-use Rattle.maildir_run.specs.Several.{Mailbox}
+use Rattle.maildir_run.specs.Several.{Text}
 use Rattle.maildir_run.proofs.Call.Fewer.{fewer_acted, fewer_left, spared_too}
 use Rattle.maildir_run.proofs.Call.Outsiders.{fewer_spared}
 use Rattle.maildir_disk.specs.PowerCuts.{IsSingle, LeftByOthers}
@@ -45,7 +45,7 @@ module _ {fewer more : Spared} (within : AreFewer fewer more) where
     }
 
     module _ {M : Type 0} (seen : M → SeenMachine) (still : (machine : M) → (seen machine).honest more → (seen machine).honest fewer)
-        (maildir : List ℕ) (texts : List Mailbox) where
+        (maildir : List ℕ) (texts : List Text) where
       -- a command leaves a machine that does as assumed
       module _ {Asks : List (List ℕ) → SeenProgram → Bytes → Type 0} {status : ℕ} {was is : Bytes} {old new : M}
           (ran : Commanded more seen Asks status was is old new) where

@@ -1,7 +1,7 @@
 -- Files that are delivered one after the other, once a first source was.
 use Rattle.std.proofs.Common.{◌≡◌, ℕ, ◌+◌, ◌<◌, ◌⊎◌, List, ◌∷◌, length, get_or, map, Contains, Some, Result, Ok, Err, IsErrAnd}
 use Rattle.std.proofs.Common.{sym, ap, subst, ◌∙◌, arith, add-one}
-use Rattle.maildir_commands.proofs.Common.{AreFit, Bytes, DeliversFiles, DeliversOne, DeliversSource, Fault, IsOfFiles, IsSoundFor, KeepsForeign, Mailbox}
+use Rattle.maildir_commands.proofs.Common.{AreFit, Bytes, DeliversFiles, DeliversOne, DeliversSource, Fault, IsOfFiles, IsSoundFor, KeepsForeign, Text}
 use Rattle.maildir_commands.proofs.Common.{OpensSources, PrintsReports, Run, SeenMachine, SeenMaildir, Source, TouchedConverters, bytes_of, Spared}
 use Rattle.maildir_commands.proofs.Common.{get_or-map, length-map}
 use Rattle.maildir_run.specs.declared.fault.RunFault.TheVariants as run
@@ -24,7 +24,7 @@ files_ended (Err e) {first = first} {files} {old} {new} {start} {now} {was} {is}
     subst (λ fault. DeliversFiles first files (Err fault) old new start now was is) (sym given) did
 
 -- the texts of the first source and of the files
-abbrev Given : SeenMachine → Bytes → List (List ℕ) → List Mailbox → Type 0
+abbrev Given : SeenMachine → Bytes → List (List ℕ) → List Text → Type 0
 Given old first files texts = (text : List ℕ) × (first ≡ Some text) × (bytes_of texts ≡ text ∷ map old.text_of files)
 
 -- So many texts were delivered.
@@ -36,13 +36,13 @@ pub record SoFar (n : ℕ) (first : Bytes) (files : List (List ℕ)) (old now : 
   pub quiet : start.quiet → work.quiet
   pub touches : TouchedConverters start.held.touched work.held.touched
   pub foreign : start.quiet → KeepsForeign start.held.files work.held.files
-  pub delivers : Honestly old.honest (λ spared. start.honest spared → (texts : List Mailbox) → Given old first files texts → AreFit texts
+  pub delivers : Honestly old.honest (λ spared. start.honest spared → (texts : List Text) → Given old first files texts → AreFit texts
       → IsSoundFor spared texts start.held →
       UpTo spared n texts start.held work.held was is)
 
 -- This source has the text of this number, which is that of a source by its word.
 pub record IsText (n : ℕ) (first : Bytes) (files : List (List ℕ)) (old : SeenMachine) (before : Bytes) : Type 0 where
-  pub text : Honestly old.honest (λ _. (texts : List Mailbox) → Given old first files texts
+  pub text : Honestly old.honest (λ _. (texts : List Text) → Given old first files texts
       → (n < length texts) × (before ≡ Some (text_at texts n).bytes))
   pub named : Honestly old.honest (λ _. (name : List ℕ) → first ≡ Some (old.text_of name)
       → (file : List ℕ) × Contains (name ∷ files) file × (before ≡ Some (old.text_of file)))
@@ -85,7 +85,7 @@ module _ {n : ℕ} {first : Bytes} {files : List (List ℕ)} {old now : SeenMach
     module _ {before after is : Bytes} {new : SeenMaildir} (this : IsText n first files old before) where
       one : {answer : Result Unit Fault} → DeliversSource answer before after mid is work new
           → (spared : Spared) (h : old.honest spared) (s : start.honest spared)
-          (texts : List Mailbox) (given : Given old first files texts) → AreFit texts → IsSoundFor spared texts start.held
+          (texts : List Text) (given : Given old first files texts) → AreFit texts → IsSoundFor spared texts start.held
           → DeliversOne spared answer (text_at texts n) work.held new.held mid is
       one did spared h s texts given fit sound =
           let text = this.text spared h texts given in

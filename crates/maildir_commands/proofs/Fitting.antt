@@ -8,7 +8,7 @@ use Rattle.maildir_name.proofs.BaseLemmas.{numbered-digits}
 use Rattle.maildir_run.proofs.Chains.BaseNumbers.{AreNumbered}
 use Rattle.maildir_run.specs.Delivery.{Message}
 use Rattle.maildir_run.specs.Texts.{bodies_of}
-use Rattle.maildir_commands.proofs.Common.{All-take, AreAlike, AreFit, HasItsMessages, Mailbox, cases_order, get_or-take, get_or_default}
+use Rattle.maildir_commands.proofs.Common.{All-take, AreAlike, AreFit, HasItsMessages, Text, cases_order, get_or-take, get_or_default}
 use Rattle.maildir_commands.proofs.Common.{length-map, length-take, take_all}
 use Rattle.maildir_commands.proofs.SameMessages.{AreSame, all_same, bases_same, body_of, own_alike, turned}
 use Rattle.maildir_commands.specs.Machines.{DifferInDigests, FitTogether, HasGrown}
@@ -17,7 +17,7 @@ alike_turned : (ms ns : List Message) → AreAlike ms ns → AreAlike ns ms
 alike_turned ms ns alike k d below j e inside same = sym (alike j e inside k d below (sym same))
 
 -- the digits of a base are those of its body's digest
-differing : {one other : Mailbox} → HasItsMessages one → HasItsMessages other → DifferInDigests one other → AreAlike one.messages other.messages
+differing : {one other : Text} → HasItsMessages one → HasItsMessages other → DifferInDigests one other → AreAlike one.messages other.messages
 differing {one} {other} is are differ k d below j e inside same =
     let digits = sym (numbered-digits _ _) ∙ (ap (take 64) (sym (is.bases k d below) ∙ (sym same ∙ are.bases j e inside)) ∙ numbered-digits _ _) in
     sym (differ k d below j e inside digits)
@@ -26,7 +26,7 @@ first_numbered : (n : ℕ) (ms : List Message) → n ≤ length ms → AreNumber
 first_numbered n ms le are k d below = grind (arith, are, get_or-take, take-take, length-take)
 
 -- the first messages of a text that has grown are those that it had
-module _ {earlier text : Mailbox} (was : HasItsMessages earlier) (is : HasItsMessages text) (has : HasGrown earlier text) where
+module _ {earlier text : Text} (was : HasItsMessages earlier) (is : HasItsMessages text) (has : HasGrown earlier text) where
   abbrev first : List Message
   first = take (length earlier.messages) text.messages
 
@@ -63,12 +63,12 @@ module _ {earlier text : Mailbox} (was : HasItsMessages earlier) (is : HasItsMes
     ]
   ]
 
-alike : {one other : Mailbox} → HasItsMessages one → HasItsMessages other → FitTogether one other → AreAlike one.messages other.messages
+alike : {one other : Text} → HasItsMessages one → HasItsMessages other → FitTogether one other → AreAlike one.messages other.messages
 alike is are (inl has) = with_earlier is are has
 alike is are (inr (inl has)) = alike_turned _ _ (with_earlier are is has)
 alike is are (inr (inr differ)) = differing is are differ
 
-pub fit : (texts : List Mailbox) → All HasItsMessages texts → AllPairs FitTogether texts → AreFit texts
+pub fit : (texts : List Text) → All HasItsMessages texts → AllPairs FitTogether texts → AreFit texts
 fit texts are pairs = record {
   are = are;
   alike = λ k d below j e inside. elim (cases_order k j) [

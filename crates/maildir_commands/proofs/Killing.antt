@@ -18,7 +18,7 @@ use Rattle.maildir_disk.proofs.Calls.Passing.{acts_none, passes_none}
 use Rattle.maildir_disk.proofs.Left.Lefts.{left_by_no_others, left_none}
 use Rattle.maildir_disk.specs.SeenSystem.{AppendsToFile, Asks, MakesFile, ReadsClock, ReadsFolder, ReadsStamp, SeenSystem, TakesFromTmp}
 use Rattle.maildir_commands.specs.declared.killed.Killed.{Killed}
-use Rattle.maildir_commands.proofs.Common.{Appends-nil, AppendsPrefix, AskFor, Bytes, Fault, HeldMaildir, Keeps-refl, Mailbox}
+use Rattle.maildir_commands.proofs.Common.{Appends-nil, AppendsPrefix, AskFor, Bytes, Fault, HeldMaildir, Keeps-refl, Text}
 use Rattle.maildir_commands.proofs.Common.{OpenFault, OpenMaildir, OpensMaildir, OpensSources, PrintsSome, Request, Run, SeenMachine, Spared, ToConvert}
 use Rattle.maildir_commands.proofs.Common.{ToWrite, Untouched, seen_at, seen_with}
 use Rattle.maildir_commands.proofs.Ending.{some_safely}
@@ -200,7 +200,7 @@ came_prefix (Some b) (Some g) (Some a) out (taken, rest, are, line) =
     sym line ∙ (out.was_lost ∙ (ap (λ xs. xs ++ out.lost) out.came_out ∙ append_assoc b out.came out.lost)) in
     (out.came, out.lost ++ rest, are ∙ (ap (λ xs. xs ++ rest) (append_cancel_left b _ _ same) ∙ append_assoc out.came out.lost rest), out.came_out)
 
-came_some : {spared : Spared} {old new : HeldMaildir} {texts : List Mailbox} {before given after : Bytes} → CameOut before after given
+came_some : {spared : Spared} {old new : HeldMaildir} {texts : List Text} {before given after : Bytes} → CameOut before after given
     → PrintsSome spared old new texts before given → PrintsSome spared old new texts before after
 came_some out some =
     record { n = some.n; reports = some.reports; true_of = some.true_of; safe = some.safe; lines = came_prefix _ _ _ out some.lines }

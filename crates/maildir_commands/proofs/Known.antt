@@ -2,7 +2,7 @@
 use Rattle.std.proofs.Common.{◌≡◌, ℕ, ◌+◌, ◌-◌, ◌≤◌, ◌||◌, Bool, cond, List, [], ◌∷◌, ◌++◌, length, All, IsTrue, None, Ok, count_by}
 use Rattle.std.proofs.Common.{refl, sym, ap, subst, ◌∙◌, inl, inr, arith}
 use Rattle.std.proofs.lemmas.List.Folds.{Any-from_list_any}
-use Rattle.maildir_commands.proofs.Common.{Action, Acts, All-head, All-tail, AreReportsOf, Files, HasAlso, HeldMaildir, IsReportOf, Mailbox, Report}
+use Rattle.maildir_commands.proofs.Common.{Action, Acts, All-head, All-tail, AreReportsOf, Files, HasAlso, HeldMaildir, IsReportOf, Text, Report}
 use Rattle.maildir_commands.proofs.Common.{Rests, World, acted, all_acted, also, cases_Bool, get, is_name}
 use Rattle.maildir_name.specs.Names.{is_converter_base, is_converter_name}
 use Rattle.maildir_run.specs.Delivery.{Message, AreNamed, IsHome, IsSwept, has_home, is_any, is_base_of, leftover_count}
@@ -70,40 +70,40 @@ report_agree spared {has} {had} agree {left} {most} few {ms} named {report} is =
       swept = λ all. omega (arith, is.swept all, few all);
     }
 
-pub also_agree : (spared : Spared) (has had : List ℕ → Bool) → Agree spared has had → (text : Mailbox) → Agree spared (also has text) (also had text)
+pub also_agree : (spared : Spared) (has had : List ℕ → Bool) → Agree spared has had → (text : Text) → Agree spared (also has text) (also had text)
 also_agree spared has had agree text b named = ap (λ x. is_base_of text.messages b || x) (agree b named)
 
 pub reports_agree : (spared : Spared) (has had : List ℕ → Bool) → Agree spared has had → (left most : ℕ) → (SparesAll spared → left ≤ most)
-    → (texts : List Mailbox) → All (λ text. AreNamed text.messages) texts
+    → (texts : List Text) → All (λ text. AreNamed text.messages) texts
     → (reports : List Report) → AreReportsOf spared had left texts reports → AreReportsOf spared has most texts reports
 reports_agree spared has had agree left most few [] named [] is = tt
 reports_agree spared has had agree left most few [] named (report ∷ reports) is = absurd is
 reports_agree spared has had agree left most few (text ∷ texts) named [] is = absurd is
 reports_agree spared has had agree left most few (text ∷ texts) named (report ∷ reports) (first, rest) = (
-  report_agree spared agree few (All-head (λ (t : Mailbox). AreNamed t.messages) text texts named) first,
+  report_agree spared agree few (All-head (λ (t : Text). AreNamed t.messages) text texts named) first,
   reports_agree spared (also has text) (also had text) (also_agree spared has had agree text) 0 0 (λ all. omega arith) texts
-      (All-tail (λ (t : Mailbox). AreNamed t.messages) text texts named) reports rest,
+      (All-tail (λ (t : Text). AreNamed t.messages) text texts named) reports rest,
 )
 
 -- which bases have a home once texts were delivered
-abbrev pub also_all : (List ℕ → Bool) → List Mailbox → List ℕ → Bool
+abbrev pub also_all : (List ℕ → Bool) → List Text → List ℕ → Bool
 also_all has [] = has
 also_all has (text ∷ texts) = also_all (also has text) texts
 
-pub also_all-last : (has : List ℕ → Bool) (texts : List Mailbox) (text : Mailbox) → also_all has (texts ++ text ∷ []) ≡ also (also_all has texts) text
+pub also_all-last : (has : List ℕ → Bool) (texts : List Text) (text : Text) → also_all has (texts ++ text ∷ []) ≡ also (also_all has texts) text
 also_all-last has [] text = refl
 also_all-last has (first ∷ texts) text = also_all-last (also has first) texts text
 
 -- how many leftovers there may be once texts were delivered
-abbrev pub left_after : ℕ → List Mailbox → ℕ
+abbrev pub left_after : ℕ → List Text → ℕ
 left_after left [] = left
 left_after left (text ∷ texts) = 0
 
-none_after : (texts : List Mailbox) → left_after 0 texts ≡ 0
+none_after : (texts : List Text) → left_after 0 texts ≡ 0
 none_after [] = refl
 none_after (text ∷ texts) = refl
 
-pub reports_more : (spared : Spared) (has : List ℕ → Bool) (left : ℕ) (texts : List Mailbox) (reports : List Report) (text : Mailbox) {report : Report}
+pub reports_more : (spared : Spared) (has : List ℕ → Bool) (left : ℕ) (texts : List Text) (reports : List Report) (text : Text) {report : Report}
     → AreReportsOf spared has left texts reports → IsReportOf spared (also_all has texts) (left_after left texts) text.messages report
     → AreReportsOf spared has left (texts ++ text ∷ []) (reports ++ report ∷ [])
 reports_more spared has left [] [] text before is = (is, tt)

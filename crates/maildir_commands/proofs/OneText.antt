@@ -1,18 +1,18 @@
 -- What any commands over one text leave of a Maildir into which no other text goes.
 use Rattle.std.proofs.Common.{◌≡◌, ◌≢◌, ℕ, List, [], ◌∷◌, ◌++◌, length, take, All, Some, refl, ap, arith}
 use Rattle.maildir_commands.proofs.Common.{All-cons, All-head, All-nil, AllSpared, AppendsPrefix, AreAlike, AreAllSafe, AreFit, AreIntact, HeldMaildir}
-use Rattle.maildir_commands.proofs.Common.{HasItsMessages, IsSafeIn, Mailbox, Report, flat_map, length-append, report_line}
+use Rattle.maildir_commands.proofs.Common.{HasItsMessages, IsSafeIn, Text, Report, flat_map, length-append, report_line}
 use Rattle.maildir_run.specs.Delivery.{IsSoundAt}
 use Rattle.maildir_disk.proofs.Left.SingleHomes.{whole_home}
 use Rattle.maildir_commands.specs.Episodes.{Episode}
 use Rattle.maildir_commands.proofs.SameMessages.{own_alike}
 use Rattle.maildir_commands.specs.Promise.{IsThereOnce, OncePromised, Promised, all_whole}
 
-module _ (text : Mailbox) where
-  of_one : (P : Mailbox → Type 0) → P text → All P (text ∷ [])
+module _ (text : Text) where
+  of_one : (P : Text → Type 0) → P text → All P (text ∷ [])
   of_one P h = All-cons P text [] h (All-nil P)
 
-  the_one : (P : Mailbox → Type 0) → All P (text ∷ []) → P text
+  the_one : (P : Text → Type 0) → All P (text ∷ []) → P text
   the_one P all = All-head P text [] all
 
   pub fit_alone : HasItsMessages text → AreFit (text ∷ [])

@@ -3,7 +3,7 @@ use Rattle.std.proofs.Common.{◌≡◌, ℕ, List, [], ◌++◌, length, take, 
 use Rattle.std.proofs.Common.{Some, None}
 use Rattle.std.proofs.Math.Seq.{take-length}
 use Rattle.maildir_commands.proofs.Common.{Appends, Appends-kept, Appends-nil, AppendsPrefix, AreAllSafe, AreTrueOf, Bytes, GivesAll, GivesPrefix, Spared}
-use Rattle.maildir_commands.proofs.Common.{HeldMaildir, IsAtEnd, Mailbox, PrintsEach, PrintsReports, PrintsSome, WritesAll, WritesPrefix, flat_map}
+use Rattle.maildir_commands.proofs.Common.{HeldMaildir, IsAtEnd, Text, PrintsEach, PrintsReports, PrintsSome, WritesAll, WritesPrefix, flat_map}
 use Rattle.maildir_commands.proofs.Common.{report_line}
 use Rattle.std.specs.Io.KnownBytes.{Keeps}
 use Rattle.mbox_text.specs.declared.entry.Entry.{Entry}
@@ -20,7 +20,7 @@ handed_all output (Some t) was given inner (count, (entries, mbox, many, grown))
 pub handed_reports : (runs : ℕ) (was given inner : Bytes) → PrintsReports was given runs → Keeps given inner → PrintsReports was inner runs
 handed_reports runs was given inner (reports, many, grown) keeps = (reports, many, Appends-kept was given inner _ grown keeps)
 
-pub handed_each : {spared : Spared} (old : HeldMaildir) (texts : List Mailbox) (was given inner : Bytes)
+pub handed_each : {spared : Spared} (old : HeldMaildir) (texts : List Text) (was given inner : Bytes)
     → PrintsEach spared old texts was given → Keeps given inner → PrintsEach spared old texts was inner
 handed_each old texts was given inner each keeps =
     record { reports = each.reports; true_of = each.true_of; lines = Appends-kept was given inner _ each.lines keeps }
@@ -38,12 +38,12 @@ all_given output before after was is ended (count, all) t entries possible mbox 
     let given : GivesAll output (Some t) was is count = subst (λ source. GivesAll output source was is count) whole all in
     prefix_of_all was is (subst (λ es. Appends was is (output es)) (mbox-one t given.0 entries given.1 mbox) given.3)
 
-pub some_kept : {spared : Spared} (old new : HeldMaildir) (texts : List Mailbox) (was given kept : Bytes)
+pub some_kept : {spared : Spared} (old new : HeldMaildir) (texts : List Text) (was given kept : Bytes)
     → Keeps given kept → PrintsSome spared old new texts was given → PrintsSome spared old new texts was kept
 some_kept old new texts was given kept keeps some =
     record { n = some.n; reports = some.reports; true_of = some.true_of; safe = some.safe; lines = prefix_kept was given kept keeps some.lines }
 
-pub each_some : {spared : Spared} {old new : HeldMaildir} {texts : List Mailbox} {was given kept : Bytes}
+pub each_some : {spared : Spared} {old new : HeldMaildir} {texts : List Text} {was given kept : Bytes}
     → Keeps given kept → PrintsEach spared old texts was given → AreAllSafe spared texts new → PrintsSome spared old new texts was kept
 each_some {spared} {old} {new} {texts} {was} {given} {kept} keeps each safe =
     let whole : take (length texts) texts ≡ texts = take-length texts in

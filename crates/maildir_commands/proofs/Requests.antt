@@ -1,7 +1,7 @@
 -- What is owed for a request, as the work goes on.
 use Rattle.std.proofs.Common.{◌≡◌, ◌⊎◌, ◌*◌, ◌^◌, ℕ, List, [], Option, Some, None, Result, Ok, Err, IsErrAnd, OnErr, OnOk, IfErr, refl, sym, ap, subst}
 use Rattle.maildir_commands.proofs.Common.{AreAllSafe, Bytes, DeliversAsked, DeliversTexts, Fault, Form, HeldMaildir, IfErr-weaker, IsCauseOf, IsKnown}
-use Rattle.maildir_commands.proofs.Common.{Serves, Spared, Mailbox, MayHaveHad, OpensSources, Possible, PrintsEach}
+use Rattle.maildir_commands.proofs.Common.{Serves, Spared, Text, MayHaveHad, OpensSources, Possible, PrintsEach}
 use Rattle.maildir_commands.proofs.Common.{ReadsAtMost, Request, Run, RunFault, SeenMachine, SeenProgram}
 use Rattle.maildir_commands.proofs.Common.{Source, ToConvert, ToWrite, Works, WritesAll, WritesMessages, named_files, output_of, seen_with, source_of}
 use denote.Ref.{Bor}
@@ -142,7 +142,7 @@ both_causes (Ok _) handed P first then = then
 both_causes (Err _) handed P first then = first
 
 delivers_both : {spared : Spared} (answer handed : Result Unit Fault) {given kept : Bytes} → Keeps given kept
-    → {texts : List Mailbox} {maildir now : HeldMaildir} {was : Bytes} → DeliversTexts spared answer texts maildir now was given
+    → {texts : List Text} {maildir now : HeldMaildir} {was : Bytes} → DeliversTexts spared answer texts maildir now was given
     → DeliversTexts spared (result_and answer handed) texts maildir now was kept
 delivers_both {spared} answer handed {given} {kept} keeps {texts} {maildir} {now} {was} did = record {
   safe = both_ok answer handed (λ safe. safe) did.safe;

@@ -13,7 +13,7 @@ use Rattle.maildir_run.proofs.Run.Batches.{all_messages, no_messages}
 use Rattle.maildir_run.specs.Delivery.{Message, AllSpared, AreNamed, IsSoundAt, has_home, there_count}
 use Rattle.maildir_run.specs.Files.{Files, Spared, homes, is_name}
 use Rattle.maildir_run.specs.Private.Parts.{messages_after}
-use Rattle.maildir_run.specs.Several.{IsMailbox, Mailbox}
+use Rattle.maildir_run.specs.Several.{IsText, Text}
 use Rattle.maildir_run.specs.Texts.{MessagesOf, bodies_of, messages_of}
 use Rattle.maildir_disk.proofs.Left.LeftTasks.{own_bodies}
 use Rattle.maildir_commands.proofs.Common.{AreAlike, AreIntact, AreSafe, Bytes, HasAlso, HeldMaildir, Possible, Report, ReportsMessages}
@@ -108,7 +108,7 @@ module _ {ms ns : List Message} (same : AreSame ms ns) where
   also_same : (spared : Spared) (old new : Files) → HasAlso spared ms old new → HasAlso spared ns old new
   also_same spared old new has b sp = has b sp ∙ ap (λ is. is || has_home old b) (any_alike base_of ms ns same.bases (λ c. is_name c b))
 
-module _ {one other : Mailbox} (same : AreSame one.messages other.messages) {spared : Spared} {old new : HeldMaildir} where
+module _ {one other : Text} (same : AreSame one.messages other.messages) {spared : Spared} {old new : HeldMaildir} where
   pub keeps_same : KeepsText spared one old new → KeepsText spared other old new
   keeps_same keeps = record {
     intact = λ was. intact_same same spared _ (keeps.intact (intact_same (turned same) spared _ was));
@@ -150,7 +150,7 @@ bases_same ms ns same one other =
     ∙ (ap (λ n. numbered (get_or ns k no_message).body (n + 1)) (counted body_of (take k ms) (take k ns) first (same_digest (get_or ns k no_message).body))
     ∙ (sym (other k no_message there) ∙ sym (get_or-map base_of ns k no_message d there))))))
 
-pub of_mailbox : {text : Mailbox} → IsMailbox text → HasItsMessages text
+pub of_mailbox : {text : Text} → IsText text → HasItsMessages text
 of_mailbox {text} is = record {
   bodies = elim is.are as (λ _. ((entries : List Entry) × Mbox text.bytes entries × (map body_of text.messages ≡ bodies_of entries))
       ⊎ (IsUnreadable text.bytes × (text.messages ≡ []))) [
@@ -161,8 +161,8 @@ of_mailbox {text} is = record {
   small = is.small;
 }
 
-module _ {text : Mailbox} (is : HasItsMessages text) where
-  abbrev pub placed : Mailbox
+module _ {text : Text} (is : HasItsMessages text) where
+  abbrev pub placed : Text
   placed = record { bytes = text.bytes; messages = messages_of (map body_of text.messages) }
 
   placed_are : MessagesOf text.bytes placed.messages
@@ -171,7 +171,7 @@ module _ {text : Mailbox} (is : HasItsMessages text) where
     | inr (none, empty) ↦ inr (none, ap (λ ms. messages_of (map body_of ms)) empty ∙ no_messages)
   ]
 
-  pub is_placed : IsMailbox placed
+  pub is_placed : IsText placed
   is_placed = record { are = placed_are; small = is.small }
 
   pub same_placed : AreSame placed.messages text.messages
@@ -188,7 +188,7 @@ module _ {text : Mailbox} (is : HasItsMessages text) where
       (alike_same same_placed _ (own_bodies _ (text_distinct text.bytes _ placed_are is.small)))
 
 -- what is so of each text whose messages are at their targets is so of each text
-pub of_each : {before after : Bytes} {P : Mailbox → Type 0} → ((one other : Mailbox) → AreSame one.messages other.messages → P one → P other)
-    → ((text : Mailbox) → IsMailbox text → Possible before after text.bytes → P text)
-    → (text : Mailbox) → HasItsMessages text → Possible before after text.bytes → P text
+pub of_each : {before after : Bytes} {P : Text → Type 0} → ((one other : Text) → AreSame one.messages other.messages → P one → P other)
+    → ((text : Text) → IsText text → Possible before after text.bytes → P text)
+    → (text : Text) → HasItsMessages text → Possible before after text.bytes → P text
 of_each carries each text is possible = carries (placed is) text (same_placed is) (each (placed is) (is_placed is) possible)

@@ -3,7 +3,7 @@ use Rattle.std.proofs.Common.{◌≡◌, ℕ, suc, ◌+◌, ◌<◌, ◌≤◌, 
 use Rattle.std.proofs.Common.{Result, OnOk, OnErr, Ok, Err, refl, sym, ap, subst, ◌∙◌, inl, inr, arith, add-one, append-nil, append_assoc}
 use Rattle.maildir_commands.proofs.Common.{All-cons, All-nil, All-take, Appends, Appends-kept, Appends-nil, Appends-trans, AppendsPrefix, Spared, SparesAll}
 use Rattle.maildir_commands.proofs.Common.{AreAlike, AreAllSafe, AreFit, AreSafe, AreTrueOf, Bytes, DeliversOne, Files, HasAlso, HeldMaildir}
-use Rattle.maildir_commands.proofs.Common.{HasItsMessages, IsSafeIn, IsSoundFor, Mailbox, OthersStay, Possible, PrintsEach, PrintsOne, PrintsReport}
+use Rattle.maildir_commands.proofs.Common.{HasItsMessages, IsSafeIn, IsSoundFor, Text, OthersStay, Possible, PrintsEach, PrintsOne, PrintsReport}
 use Rattle.maildir_commands.proofs.Common.{ReportsMessages}
 use Rattle.maildir_commands.proofs.Common.{PrintsSome, ReadsAtMost, Report, Rests, Stays, bytes_of, cases_order, flat_map, flat_map-append, get_or-map}
 use Rattle.maildir_commands.proofs.Common.{get_or-take, get_or_default, length-map, length-take, report_line, take_all, take_more}
@@ -15,10 +15,10 @@ use Rattle.maildir_commands.proofs.Known.{Agree, also_agree, also_all, also_all-
 use Rattle.maildir_commands.proofs.Known.{report_agree, reports_agree, reports_more}
 
 -- the text of this number, and a text for places past a list's end
-abbrev no_text : Mailbox
+abbrev no_text : Text
 no_text = record { bytes = []; messages = [] }
 
-abbrev pub text_at : List Mailbox → ℕ → Mailbox
+abbrev pub text_at : List Text → ℕ → Text
 text_at texts n = get_or texts n no_text
 
 all_one : {X : Type 0} (P : X → Type 0) {x : X} → P x → All P (x ∷ [])
@@ -54,10 +54,10 @@ rest_of : {spared : Spared} {others : List Message} → AreNamed others → {old
     → Stays spared others old.files old.may_leave new.files new.may_leave
 rest_of {others} named rests = stays_acted others named rests.actions _ _ _ _ rests.files_are rests.left
 
-pub stay_rest : {spared : Spared} (texts : List Mailbox) {old new : HeldMaildir} → Rests spared old new → OthersStay spared texts old new
+pub stay_rest : {spared : Spared} (texts : List Text) {old new : HeldMaildir} → Rests spared old new → OthersStay spared texts old new
 stay_rest texts rests = λ others named alike. rest_of named rests
 
-pub stay_both : {spared : Spared} (texts : List Mailbox) (a b c : HeldMaildir) → OthersStay spared texts a b → OthersStay spared texts b c
+pub stay_both : {spared : Spared} (texts : List Text) (a b c : HeldMaildir) → OthersStay spared texts a b → OthersStay spared texts b c
     → OthersStay spared texts a c
 stay_both texts a b c first then = λ others named alike.
     stays_then others a.files a.may_leave b.files b.may_leave c.files c.may_leave (first others named alike) (then others named alike)
@@ -68,12 +68,12 @@ pub safe_stay : {spared : Spared} {ms : List Message} (old new : HeldMaildir) �
     → AreSafe spared ms old.files old.may_leave old.rooted → AreSafe spared ms new.files new.may_leave new.rooted
 safe_stay old new stays rooted was = record { home = stays.home was.home; survive = stays.survive was.survive; is_rooted = rooted was.is_rooted }
 
-named_all : (texts : List Mailbox) → All HasItsMessages texts → All (λ text. AreNamed text.messages) texts
+named_all : (texts : List Text) → All HasItsMessages texts → All (λ text. AreNamed text.messages) texts
 named_all texts are k d below = named_of (are k d below)
 
 -- ---- while nothing is done
-module _ {spared : Spared} (texts : List Mailbox) (are : All HasItsMessages texts) {old new : HeldMaildir} (rests : Rests spared old new) where
-  rest_stays : (k : ℕ) (d : Mailbox) → k < length texts → Stays spared (get_or texts k d).messages old.files old.may_leave new.files new.may_leave
+module _ {spared : Spared} (texts : List Text) (are : All HasItsMessages texts) {old new : HeldMaildir} (rests : Rests spared old new) where
+  rest_stays : (k : ℕ) (d : Text) → k < length texts → Stays spared (get_or texts k d).messages old.files old.may_leave new.files new.may_leave
   rest_stays k d below = rest_of (named_all texts are k d below) rests
 
   pub rest_sound : IsSoundFor spared texts old → IsSoundFor spared texts new
@@ -94,7 +94,7 @@ module _ {spared : Spared} (texts : List Mailbox) (are : All HasItsMessages text
   pub rest_each : {was is : Bytes} → PrintsEach spared new texts was is → PrintsEach spared old texts was is
   rest_each prints = record { reports = prints.reports; true_of = rest_true prints.reports prints.true_of; lines = prints.lines }
 
-pub rest_some : {spared : Spared} (texts : List Mailbox) → All HasItsMessages texts → {old ready work new : HeldMaildir} {was is : Bytes}
+pub rest_some : {spared : Spared} (texts : List Text) → All HasItsMessages texts → {old ready work new : HeldMaildir} {was is : Bytes}
     → Rests spared old ready → Rests spared work new → PrintsSome spared ready work texts was is → PrintsSome spared old new texts was is
 rest_some texts are rests closes prints =
     let first = All-take HasItsMessages prints.n texts are in
@@ -107,7 +107,7 @@ rest_some texts are rests closes prints =
     }
 
 -- ---- nothing was delivered
-pub none_some : {spared : Spared} {texts : List Mailbox} {old new : HeldMaildir} {was is : Bytes} → Keeps was is → PrintsSome spared old new texts was is
+pub none_some : {spared : Spared} {texts : List Text} {old new : HeldMaildir} {was is : Bytes} → Keeps was is → PrintsSome spared old new texts was is
 none_some {spared} {new} {was} {is} keeps = record {
   n = 0;
   reports = [];
@@ -118,9 +118,9 @@ none_some {spared} {new} {was} {is} keeps = record {
 
 -- ---- how far several texts are
 -- The Maildir is sound for all of them, so many are safe, and their lines were written.
-pub record UpTo (spared : Spared) (n : ℕ) (texts : List Mailbox) (start now : HeldMaildir) (was is : Bytes) : Type 0 where
+pub record UpTo (spared : Spared) (n : ℕ) (texts : List Text) (start now : HeldMaildir) (was is : Bytes) : Type 0 where
   pub sound : IsSoundFor spared texts now
-  pub safe : (k : ℕ) (d : Mailbox) → k < n → k < length texts → IsSafeIn spared now (get_or texts k d)
+  pub safe : (k : ℕ) (d : Text) → k < n → k < length texts → IsSafeIn spared now (get_or texts k d)
   pub has : Agree spared (has_home now.files) (also_all (has_home start.files) (take n texts))
   pub left : SparesAll spared → leftover_count now.files ≤ left_after (leftover_count start.files) (take n texts)
   pub reports : List Report
@@ -130,7 +130,7 @@ pub record UpTo (spared : Spared) (n : ℕ) (texts : List Mailbox) (start now : 
   pub still_rooted : start.rooted → now.rooted
   pub swept : 0 < n → IsSwept spared now.files
 
-pub none_printed : {spared : Spared} {texts : List Mailbox} {start : HeldMaildir} {was : Bytes} → IsSoundFor spared texts start
+pub none_printed : {spared : Spared} {texts : List Text} {start : HeldMaildir} {was : Bytes} → IsSoundFor spared texts start
     → UpTo spared 0 texts start start was was
 none_printed {was = was} sound = record {
   sound = sound;
@@ -172,25 +172,25 @@ module _ (was mid is : Bytes) (reports : List Report) (report : Report) (before 
   )
 
 -- of the first texts
-first_safe : {spared : Spared} (texts : List Mailbox) {n : ℕ} (now : HeldMaildir)
-    → ((k : ℕ) (d : Mailbox) → k < n → k < length texts → IsSafeIn spared now (get_or texts k d)) → AreAllSafe spared (take n texts) now
+first_safe : {spared : Spared} (texts : List Text) {n : ℕ} (now : HeldMaildir)
+    → ((k : ℕ) (d : Text) → k < n → k < length texts → IsSafeIn spared now (get_or texts k d)) → AreAllSafe spared (take n texts) now
 first_safe {spared} texts {n} now safe k d below =
     let most = length-take n texts in
     let lt : k < n = omega (arith, below, most) in
     subst (IsSafeIn spared now) (sym (get_or-take n texts k d lt)) (safe k d lt (omega (arith, below, most)))
 
 -- what the delivery of the next one leaves
-module _ {spared : Spared} {texts : List Mailbox} (fit : AreFit texts) {n : ℕ} (inside : n < length texts) {start old new : HeldMaildir} {was mid is : Bytes}
+module _ {spared : Spared} {texts : List Text} (fit : AreFit texts) {n : ℕ} (inside : n < length texts) {start old new : HeldMaildir} {was mid is : Bytes}
     (up : UpTo spared n texts start old was mid) {A E : Type 0} {answer : Result A E} (one : DeliversOne spared answer (text_at texts n) old new mid is) where
-  others_at : (k : ℕ) (d : Mailbox) → k < length texts → Stays spared (get_or texts k d).messages old.files old.may_leave new.files new.may_leave
+  others_at : (k : ℕ) (d : Text) → k < length texts → Stays spared (get_or texts k d).messages old.files old.may_leave new.files new.may_leave
   others_at k d below =
       one.stays (get_or texts k d).messages (named_all texts fit.are k d below)
-      (all_one (λ (t : Mailbox). AreAlike (get_or texts k d).messages t.messages) (fit.alike k d below n no_text inside))
+      (all_one (λ (t : Text). AreAlike (get_or texts k d).messages t.messages) (fit.alike k d below n no_text inside))
 
   pub stay_more : OthersStay spared texts start new
   stay_more = λ others named alike.
       stays_then others _ _ _ _ _ _ (up.stay others named alike)
-      (one.stays others named (all_one (λ (t : Mailbox). AreAlike others t.messages) (alike n no_text inside)))
+      (one.stays others named (all_one (λ (t : Text). AreAlike others t.messages) (alike n no_text inside)))
 
   pub sound_more : IsSoundFor spared texts new
   sound_more = record {
@@ -199,10 +199,10 @@ module _ {spared : Spared} {texts : List Mailbox} (fit : AreFit texts) {n : ℕ}
   }
 
   -- those that are safe, and one more
-  still_safe : (k : ℕ) (d : Mailbox) → k < n → k < length texts → IsSafeIn spared new (get_or texts k d)
+  still_safe : (k : ℕ) (d : Text) → k < n → k < length texts → IsSafeIn spared new (get_or texts k d)
   still_safe k d less below = safe_stay old new (others_at k d below) one.still_rooted (up.safe k d less below)
 
-  safe_more : IsSafeIn spared new (text_at texts n) → (k : ℕ) (d : Mailbox) → k < n + 1 → k < length texts → IsSafeIn spared new (get_or texts k d)
+  safe_more : IsSafeIn spared new (text_at texts n) → (k : ℕ) (d : Text) → k < n + 1 → k < length texts → IsSafeIn spared new (get_or texts k d)
   safe_more last k d lt below =
       elim (last_or lt) as (λ _. IsSafeIn spared new (get_or texts k d)) [
         | inl less ↦ still_safe k d less below
@@ -257,7 +257,7 @@ module _ {spared : Spared} {texts : List Mailbox} (fit : AreFit texts) {n : ℕ}
     lines = more_prefix was mid is _ _ up.lines last.line;
   }
 
-module _ {spared : Spared} {n : ℕ} {texts : List Mailbox} {start now : HeldMaildir} {was is : Bytes} (up : UpTo spared n texts start now was is) where
+module _ {spared : Spared} {n : ℕ} {texts : List Text} {start now : HeldMaildir} {was is : Bytes} (up : UpTo spared n texts start now was is) where
   -- the next text could not be opened
   pub stopped_between : PrintsSome spared start now texts was is
   stopped_between =
@@ -272,14 +272,14 @@ module _ {spared : Spared} {n : ℕ} {texts : List Mailbox} {start now : HeldMai
       record { reports = up.reports; true_of = subst (λ ts. AreTrueOf spared start.files ts up.reports) (take_all n texts most) up.true_of; lines = up.lines }
 
 -- ---- the bytes of texts
-bytes_at : (texts : List Mailbox) {all : List (List ℕ)} → bytes_of texts ≡ all
+bytes_at : (texts : List Text) {all : List (List ℕ)} → bytes_of texts ≡ all
     → {n : ℕ} (x : List ℕ) → n < length texts → (text_at texts n).bytes ≡ get_or all n x
-bytes_at texts e {n} x inside = sym (get_or-map (λ (text : Mailbox). text.bytes) texts n no_text x inside) ∙ ap (λ xs. get_or xs n x) e
+bytes_at texts e {n} x inside = sym (get_or-map (λ (text : Text). text.bytes) texts n no_text x inside) ∙ ap (λ xs. get_or xs n x) e
 
 -- the first text, and those after it
-module _ (texts : List Mailbox) {text : List ℕ} (f : List ℕ → List ℕ) (rest : List (List ℕ)) (are : bytes_of texts ≡ text ∷ map f rest) where
+module _ (texts : List Text) {text : List ℕ} (f : List ℕ → List ℕ) (rest : List (List ℕ)) (are : bytes_of texts ≡ text ∷ map f rest) where
   pub after_length : length texts ≡ length rest + 1
-  after_length = sym (length-map texts (λ (text : Mailbox). text.bytes)) ∙ (ap length are ∙ (ap suc (length-map rest f) ∙ sym (add-one _)))
+  after_length = sym (length-map texts (λ (text : Text). text.bytes)) ∙ (ap length are ∙ (ap suc (length-map rest f) ∙ sym (add-one _)))
 
   pub first_text : text ≡ (text_at texts 0).bytes
   first_text = sym (bytes_at texts are text (omega (arith, after_length)))

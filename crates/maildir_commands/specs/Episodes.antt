@@ -1,9 +1,9 @@
 -- What happens to a Maildir: commands, other programs and power cuts, one after the other.
 use Rattle.std.specs.Prelude.{◌≡◌, ◌⊎◌, ℕ, List, All, Contains, Option}
 use Rattle.maildir_run.specs.Files.{Files, KeepsHomes, Spared}
-use Rattle.maildir_run.specs.MemFiles.{no_files}
+use Rattle.maildir_run.specs.Files.{no_files}
 use Rattle.maildir_run.specs.Runs.{Chain}
-use Rattle.maildir_run.specs.Several.{Mailbox}
+use Rattle.maildir_run.specs.Several.{Text}
 use Rattle.maildir_disk.specs.PowerCuts.{IsSingle}
 use Rattle.maildir_commands.specs.Commands.{ChangesMaildirs, IsElsewhere}
 use Rattle.maildir_commands.specs.Machines.{GivesTexts, HeldMaildir, Rests}
@@ -14,7 +14,7 @@ use Rattle.maildir_commands.specs.Words.{convert_words}
 pub data Episode : Type 0 where
   -- A command that was to deliver these texts ended with this status; one that was killed counts as one with status 1. Standard output had `before` as it
   -- began, and `after` at its end.
-  Conversion : (texts : List Mailbox) → (status : ℕ) → (before after : Option (List ℕ)) → Episode
+  Conversion : (texts : List Text) → (status : ℕ) → (before after : Option (List ℕ)) → Episode
   -- A command ended that does not convert into this Maildir.
   Elsewhere : Episode
   -- no command was at work; other programs acted, or none did
@@ -23,7 +23,7 @@ pub data Episode : Type 0 where
   Cut : Episode
 
 -- These words are to deliver these texts, those of the files, into the Maildir of this path. Each is among `texts`.
-abbrev pub IsToDeliver : List ℕ → List Mailbox → List Mailbox → List (List ℕ) → SeenProgram → Option (List ℕ) → Type 0
+abbrev pub IsToDeliver : List ℕ → List Text → List Text → List (List ℕ) → SeenProgram → Option (List ℕ) → Type 0
 IsToDeliver path texts these words old rest =
     (into : List ℕ) × (files : List (List ℕ)) × (words ≡ convert_words into files) × old.machine.same into path
     × GivesTexts old.machine.text_of old.input rest files these × All (Contains texts) these
@@ -58,7 +58,7 @@ pub record LeftByPowerCut (spared : Spared) (old new : HeldMaildir) : Type 0 whe
 
 -- An episode leads from one moment of a machine to another. These are premises: what other programs do leaves a machine that still does as assumed, and
 -- after a power cut it does so again.
-abbrev pub LeadsTo : {M : Type 0} → Spared → (M → SeenMachine) → List ℕ → List Mailbox → Episode → M → M → Type 0
+abbrev pub LeadsTo : {M : Type 0} → Spared → (M → SeenMachine) → List ℕ → List Text → Episode → M → M → Type 0
 LeadsTo spared at path texts (Conversion these status before after) old new = Commanded spared at (IsToDeliver path texts these) status before after old new
 LeadsTo spared at path texts Elsewhere old new =
     (status : ℕ) × (before after : Option (List ℕ)) × Commanded spared at (λ words seen rest. IsElsewhere words seen.machine path) status before after old new
@@ -67,5 +67,5 @@ LeadsTo spared at path texts Others old new =
 LeadsTo spared at path texts Cut old new = LeftByPowerCut spared ((at old).maildir_at path) ((at new).maildir_at path) × (at new).honest spared
 
 -- any episodes, one after the other
-abbrev pub IsHistory : {M : Type 0} → Spared → (M → SeenMachine) → List ℕ → List Mailbox → List Episode → M → M → Type 0
+abbrev pub IsHistory : {M : Type 0} → Spared → (M → SeenMachine) → List ℕ → List Text → List Episode → M → M → Type 0
 IsHistory spared at path texts = Chain (LeadsTo spared at path texts)

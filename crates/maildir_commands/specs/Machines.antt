@@ -7,9 +7,9 @@ use Rattle.maildir_name.specs.Targets.{digest_text, numbered, same_digest}
 use Rattle.maildir_run.specs.Cuts.{Follows}
 use Rattle.maildir_run.specs.Delivery.{Message, AllSpared, AreNamed, IsSoundAt, has_home, is_base_of}
 use Rattle.maildir_run.specs.Files.{Files, Action, all_acted, Spared, is_spared}
-use Rattle.maildir_run.specs.MemFiles.{no_files}
+use Rattle.maildir_run.specs.Files.{no_files}
 use Rattle.maildir_run.specs.Runs.{Possible}
-use Rattle.maildir_run.specs.Several.{Mailbox}
+use Rattle.maildir_run.specs.Several.{Text}
 use Rattle.maildir_run.specs.Texts.{bodies_of}
 use Rattle.maildir_run.specs.Touched.{FileName, TouchedNone}
 use Rattle.maildir_disk.specs.Others.{Stays}
@@ -45,7 +45,7 @@ abbrev pub IsNumbered : List Message → Message → Type 0
 IsNumbered before m = m.target.base ≡ numbered m.body (count_by (λ n. same_digest m.body n.body) before + 1)
 
 -- The messages are those of the text, by their bodies and bases; their places and names are left open. The text has fewer than 2^63 bytes.
-pub record HasItsMessages (text : Mailbox) : Type 0 where
+pub record HasItsMessages (text : Text) : Type 0 where
   -- one for each entry, in order, with its body; none if the text is in `Mbox` with no list (mbox(5))
   pub bodies : ((entries : List Entry) × Mbox text.bytes entries × (map (λ m. m.body) text.messages ≡ bodies_of entries))
       ⊎ (IsUnreadable text.bytes × (text.messages ≡ []))
@@ -53,37 +53,37 @@ pub record HasItsMessages (text : Mailbox) : Type 0 where
   pub small : length text.bytes < 2 ^ 63
 
 -- These texts can go into one Maildir: no two of their messages have the same base and other bodies.
-pub record AreFit (texts : List Mailbox) : Type 0 where
+pub record AreFit (texts : List Text) : Type 0 where
   pub are : All HasItsMessages texts
   pub alike : All (λ text. All (λ other. AreAlike text.messages other.messages) texts) texts
 
 -- different messages of the two texts have different digests
-abbrev pub DifferInDigests : Mailbox → Mailbox → Type 0
+abbrev pub DifferInDigests : Text → Text → Type 0
 DifferInDigests one other = All (λ m. All (λ n. digest_text m.body ≡ digest_text n.body → m.body ≡ n.body) other.messages) one.messages
 
 -- The text is an earlier one with mail appended: that was empty or ended with `\n`, and what follows begins with `From `, or is nothing.
-abbrev pub HasGrown : Mailbox → Mailbox → Type 0
+abbrev pub HasGrown : Text → Text → Type 0
 HasGrown earlier text = (more : List ℕ) × Ended earlier.bytes × (text.bytes ≡ earlier.bytes ++ more) × IsMboxText more
 
 -- of the two texts one is the other with mail appended, or different messages of them have different digests
-abbrev pub FitTogether : Mailbox → Mailbox → Type 0
+abbrev pub FitTogether : Text → Text → Type 0
 FitTogether one other = HasGrown one other ⊎ (HasGrown other one ⊎ DifferInDigests one other)
 
 -- For the messages of the texts that are spared, a Maildir is sound, and what a power cut may leave of it is intact.
-pub record IsSoundFor (spared : Spared) (texts : List Mailbox) (maildir : HeldMaildir) : Type 0 where
+pub record IsSoundFor (spared : Spared) (texts : List Text) (maildir : HeldMaildir) : Type 0 where
   pub sound : All (λ text. AllSpared spared (IsSoundAt maildir.files) text.messages) texts
   pub intact : All (λ text. AreIntact spared text.messages maildir.may_leave) texts
 
 -- the messages of the text that are spared are delivered in the Maildir, and survive a power cut
-abbrev pub IsSafeIn : Spared → HeldMaildir → Mailbox → Type 0
+abbrev pub IsSafeIn : Spared → HeldMaildir → Text → Type 0
 IsSafeIn spared maildir text = AreSafe spared text.messages maildir.files maildir.may_leave maildir.rooted
 
 -- the same holds of each of the texts
-abbrev pub AreAllSafe : Spared → List Mailbox → HeldMaildir → Type 0
+abbrev pub AreAllSafe : Spared → List Text → HeldMaildir → Type 0
 AreAllSafe spared texts maildir = All (IsSafeIn spared maildir) texts
 
 -- any messages stay, also of other texts, if those that share a base with a message of these texts have the same body
-abbrev pub OthersStay : Spared → List Mailbox → HeldMaildir → HeldMaildir → Type 0
+abbrev pub OthersStay : Spared → List Text → HeldMaildir → HeldMaildir → Type 0
 OthersStay spared texts old new =
     (others : List Message) → AreNamed others → All (λ text. AreAlike others text.messages) texts →
     Stays spared others old.files old.may_leave new.files new.may_leave
@@ -93,10 +93,10 @@ abbrev pub HasAlso : Spared → List Message → Files → Files → Type 0
 HasAlso spared ms old new = (b : List ℕ) → IsTrue (is_spared spared b) → has_home new b ≡ (is_base_of ms b || has_home old b)
 
 -- these are the bytes of the texts, in order
-abbrev pub bytes_of : List Mailbox → List (List ℕ)
+abbrev pub bytes_of : List Text → List (List ℕ)
 bytes_of texts = map (λ text. text.bytes) texts
 
 -- the texts of a conversion: one for each file, in order; if no file is named, one text that standard input may have had
-abbrev pub GivesTexts : (List ℕ → List ℕ) → Option (List ℕ) → Option (List ℕ) → List (List ℕ) → List Mailbox → Type 0
-GivesTexts text_of before after [] texts = (text : Mailbox) × (texts ≡ text ∷ []) × Possible before after text.bytes
+abbrev pub GivesTexts : (List ℕ → List ℕ) → Option (List ℕ) → Option (List ℕ) → List (List ℕ) → List Text → Type 0
+GivesTexts text_of before after [] texts = (text : Text) × (texts ≡ text ∷ []) × Possible before after text.bytes
 GivesTexts text_of before after (file ∷ files) texts = bytes_of texts ≡ map text_of (file ∷ files)

@@ -8,7 +8,7 @@ use Rattle.mbox_text.specs.Writing.{Writes}
 use Rattle.maildir_run.specs.declared.fault.RunFault.TheVariants as run
 use Rattle.maildir_run.specs.Foreign.{KeepsForeign}
 use Rattle.maildir_run.specs.Runs.{Possible}
-use Rattle.maildir_run.specs.Several.{Mailbox}
+use Rattle.maildir_run.specs.Several.{Text}
 use Rattle.maildir_run.specs.Touched.{TouchedConverters}
 use Rattle.maildir_disk.specs.Faults.{IsFailedAllocation}
 use Rattle.maildir_commands.specs.declared.fault.Fault.{Fault}
@@ -58,7 +58,7 @@ pub record DeliversInto (maildir : List ℕ) (files : List (List ℕ)) (answer :
   pub foreign : old.machine.quiet → KeepsForeign (old.machine.maildir_at maildir).files (new.machine.maildir_at maildir).files
 
 -- A command with this status, which was to deliver these texts, printed these lines.
-pub record TellsTruth (spared : Spared) (status : ℕ) (texts : List Mailbox) (old new : HeldMaildir) (was is : Option (List ℕ)) : Type 0 where
+pub record TellsTruth (spared : Spared) (status : ℕ) (texts : List Text) (old new : HeldMaildir) (was is : Option (List ℕ)) : Type 0 where
   -- With status 0 it printed the line of a true report for each text.
   pub each : status ≡ 0 → PrintsEach spared old texts was is
   -- With status 1 it printed a prefix of the lines for the first few texts. These texts are in the Maildir, and survive a power cut.

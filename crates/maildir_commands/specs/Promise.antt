@@ -1,6 +1,6 @@
 -- The promise on any commands, on one page: what is promised, what is assumed, what may happen, and what a command does to Maildirs.
 --
--- A text is what a mailbox file holds (`Mailbox`). A message of it has a body and a base. The body is the whole message, its header too, with the quoting
+-- A text is what a mailbox file holds (`Text`). A message of it has a body and a base. The body is the whole message, its header too, with the quoting
 -- of the mailbox undone, and without the line `From `. The base is the front of its file name: the digest of the body, a dot, and the message's number
 -- among those of its text with this digest. So a message that stands once in each of two texts has the same base in both, and is the same file.
 --
@@ -36,7 +36,7 @@
 --   Untouched       the Maildir rests (Rests), if the machine is honest; and if no other program acts, its files are as they were
 --   report_line     the line of a report, with its counts
 --   convert_words   the words `convert INTO [FILE]...`
--- In maildir_run/specs, Delivery, Files, MemFiles and Runs:
+-- In maildir_run/specs, Delivery, Files and Runs:
 --   IsMissing       no file of `new` or `cur` has the message's base
 --   IsHome          exactly one file of `new` or `cur` has the message's base, and it has exactly its body
 --   IsSoundAt       one of the two: IsMissing or IsHome
@@ -55,7 +55,7 @@
 use Rattle.std.specs.Prelude.{◌≡◌, ◌≢◌, ℕ, List, [], ◌∷◌, ◌++◌, All, Contains, Option, Some, true}
 use Rattle.maildir_run.specs.Delivery.{AllSpared, IsHome, IsMissing, IsSoundAt, IsSwept}
 use Rattle.maildir_run.specs.Files.{Files, Spared}
-use Rattle.maildir_run.specs.Several.{Mailbox}
+use Rattle.maildir_run.specs.Several.{Text}
 use Rattle.maildir_disk.specs.PowerCuts.{AreIntact}
 use Rattle.maildir_commands.specs.Commands.{LeftByCommand}
 use Rattle.maildir_commands.specs.Episodes.{Conversion, Episode, IsHistory}
@@ -63,22 +63,22 @@ use Rattle.maildir_commands.specs.Machines.{AreFit, HeldMaildir, IsSoundFor}
 use Rattle.maildir_commands.specs.Seen.{SeenMachine}
 
 -- THE PROMISE, on the spared messages, whatever other programs do to all others, and on the Maildir as it is after all episodes.
-pub record Promised (spared : Spared) (texts : List Mailbox) (episodes : List Episode) (maildir : HeldMaildir) : Type 0 where
+pub record Promised (spared : Spared) (texts : List Text) (episodes : List Episode) (maildir : HeldMaildir) : Type 0 where
   -- The Maildir is sound for all of the texts: each message is missing, or in exactly one file of `new` or `cur`, with exactly its body.
   pub sound : IsSoundFor spared texts maildir
   -- What a command left of its texts is still so, however long ago that was. After status 0 each message is safe; after status 1 it is, if it is known
   -- (`Some`) that the line of its text was begun. Whoever saw the line knows it. A command that was killed (a shell says status 137) counts as one with
   -- status 1. The last episode may be a power cut: after it, too, each safe message is in exactly one file.
-  pub left : (these : List Mailbox) (status : ℕ) (before after : Option (List ℕ)) → Contains episodes (Conversion these status before after)
+  pub left : (these : List Text) (status : ℕ) (before after : Option (List ℕ)) → Contains episodes (Conversion these status before after)
       → LeftByCommand spared these status before after maildir
   -- Right after status 0 `tmp` is swept.
-  pub swept : (earlier : List Episode) (these : List Mailbox) (before after : Option (List ℕ)) → episodes ≡ earlier ++ (Conversion these 0 before after ∷ [])
+  pub swept : (earlier : List Episode) (these : List Text) (before after : Option (List ℕ)) → episodes ≡ earlier ++ (Conversion these 0 before after ∷ [])
       → IsSwept spared maildir.files
 
 -- THE PREMISES: any commands follow one another, with any words and any status, among other programs and power cuts. They are assumed of one set of
 -- spared messages, of one Maildir by its path, and of all texts that ever go in. Of what MODEL.md assumes, `honest` has the numbers named above; `history`
 -- has 15, and 6 and 14 between commands; `single` of a power cut has 12; `sound` has 16.
-pub record AnyCommands {M : Type 0} (spared : Spared) (at : M → SeenMachine) (path : List ℕ) (texts : List Mailbox) (episodes : List Episode)
+pub record AnyCommands {M : Type 0} (spared : Spared) (at : M → SeenMachine) (path : List ℕ) (texts : List Text) (episodes : List Episode)
     (old new : M) : Type 0 where
   -- At first the machine does as assumed, and other programs spare these messages. For later moments the episodes say so.
   pub as_assumed : (at old).honest spared
@@ -93,7 +93,7 @@ pub record AnyCommands {M : Type 0} (spared : Spared) (at : M → SeenMachine) (
 
 -- The Maildir has none of the messages of the texts. If a power cut may bring some back that were deleted, it brings them back whole. `AnyCommands` has no
 -- such premise: the clause `begins` of the law says that a Maildir which is new to the texts is sound for them. The law for one text has it.
-pub record IsNewTo (spared : Spared) (texts : List Mailbox) (maildir : HeldMaildir) : Type 0 where
+pub record IsNewTo (spared : Spared) (texts : List Text) (maildir : HeldMaildir) : Type 0 where
   pub missing : All (λ text. AllSpared spared (IsMissing maildir.files) text.messages) texts
   pub intact : All (λ text. AreIntact spared text.messages maildir.may_leave) texts
 
@@ -111,14 +111,14 @@ abbrev pub all_whole : Spared
 all_whole = record { bases = λ b. true; whole = true }
 
 -- each message of the text is in exactly one file of `new` or `cur`, with exactly its body, and so it is in whatever a power cut may leave
-pub record IsThereOnce (text : Mailbox) (maildir : HeldMaildir) : Type 0 where
+pub record IsThereOnce (text : Text) (maildir : HeldMaildir) : Type 0 where
   pub now : All (IsHome maildir.files) text.messages
   pub after_a_cut : (left : Files) → maildir.may_leave left → All (IsHome left) text.messages
   pub is_rooted : maildir.rooted
 
 -- THE PROMISE FOR ONE TEXT, by the law `after_commands_over_one_text`: a text has its messages (`HasItsMessages`), a machine does as assumed where this is
 -- spared (`all_whole`), a Maildir is new to the text, and then any commands follow one another (`IsHistory`), with no other text for this Maildir.
-pub record OncePromised (text : Mailbox) (episodes : List Episode) (maildir : HeldMaildir) : Type 0 where
+pub record OncePromised (text : Text) (episodes : List Episode) (maildir : HeldMaildir) : Type 0 where
   -- Each message is missing, or in exactly one file of `new` or `cur`, with exactly its body.
   pub sound : All (IsSoundAt maildir.files) text.messages
   -- After a status 0 of a command whose words name this text once, however long ago, each is there once.

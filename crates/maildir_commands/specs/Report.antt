@@ -8,7 +8,7 @@ use Rattle.maildir_run.specs.Delivery.{has_home, is_base_of, leftover_count}
 use Rattle.maildir_run.specs.Files.{Files, Spared}
 use Rattle.maildir_run.specs.declared.report.Report.{Report}
 use Rattle.maildir_run.specs.Runs.{IsReportOf}
-use Rattle.maildir_run.specs.Several.{Mailbox}
+use Rattle.maildir_run.specs.Several.{Text}
 use Rattle.maildir_commands.specs.Machines.{HeldMaildir, AreAllSafe}
 
 -- the line with the counts of a run
@@ -27,11 +27,11 @@ abbrev pub PrintsReports : Option (List ℕ) → Option (List ℕ) → ℕ → T
 PrintsReports was is runs = (reports : List Report) × (length reports ≡ runs) × Appends was is (flat_map report_line reports)
 
 -- which bases have a home once a text was delivered
-abbrev pub also : (List ℕ → Bool) → Mailbox → List ℕ → Bool
+abbrev pub also : (List ℕ → Bool) → Text → List ℕ → Bool
 also has text b = is_base_of text.messages b || has b
 
 -- the reports of runs over these texts, one after the other: each run finds the texts before it delivered, and after the first run `tmp` has no leftovers
-abbrev pub AreReportsOf : Spared → (List ℕ → Bool) → ℕ → List Mailbox → List Report → Type 0
+abbrev pub AreReportsOf : Spared → (List ℕ → Bool) → ℕ → List Text → List Report → Type 0
 AreReportsOf spared has leftovers [] [] = Unit {0}
 AreReportsOf spared has leftovers [] (report ∷ reports) = ⊥
 AreReportsOf spared has leftovers (text ∷ texts) [] = ⊥
@@ -39,17 +39,17 @@ AreReportsOf spared has leftovers (text ∷ texts) (report ∷ reports) =
     IsReportOf spared has leftovers text.messages report × AreReportsOf spared (also has text) 0 texts reports
 
 -- the reports are true of runs over these texts, of which the first begins with these files
-abbrev pub AreTrueOf : Spared → Files → List Mailbox → List Report → Type 0
+abbrev pub AreTrueOf : Spared → Files → List Text → List Report → Type 0
 AreTrueOf spared old = AreReportsOf spared (has_home old) (leftover_count old)
 
 -- The line of a true report was written for each of the texts, in order.
-pub record PrintsEach (spared : Spared) (old : HeldMaildir) (texts : List Mailbox) (was is : Option (List ℕ)) : Type 0 where
+pub record PrintsEach (spared : Spared) (old : HeldMaildir) (texts : List Text) (was is : Option (List ℕ)) : Type 0 where
   pub reports : List Report
   pub true_of : AreTrueOf spared old.files texts reports
   pub lines : Appends was is (flat_map report_line reports)
 
 -- A prefix of the lines of true reports of the first n texts was written. Each of these texts is in the Maildir, and survives a power cut.
-pub record PrintsSome (spared : Spared) (old new : HeldMaildir) (texts : List Mailbox) (was is : Option (List ℕ)) : Type 0 where
+pub record PrintsSome (spared : Spared) (old new : HeldMaildir) (texts : List Text) (was is : Option (List ℕ)) : Type 0 where
   pub n : ℕ
   pub reports : List Report
   pub true_of : AreTrueOf spared old.files (take n texts) reports

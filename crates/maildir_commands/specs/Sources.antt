@@ -9,7 +9,7 @@ use Rattle.maildir_run.specs.Delivery.{AreNamed, IsSoundAt, IsSwept, Message, Al
 use Rattle.maildir_run.specs.Foreign.{KeepsForeign}
 use Rattle.maildir_run.specs.Reading.{ReadsAtMost}
 use Rattle.maildir_run.specs.Runs.{CountsRun, Possible, ReportsMessages}
-use Rattle.maildir_run.specs.Several.{Mailbox}
+use Rattle.maildir_run.specs.Several.{Text}
 use Rattle.maildir_run.specs.Texts.{MessagesOf}
 use Rattle.maildir_run.specs.Touched.{TouchedConverters}
 use Rattle.maildir_disk.specs.declared.disk_folder.DiskFolder.{DiskFolder}
@@ -39,7 +39,7 @@ seen_folder f folder =
     record { honest = seen.honest; quiet = seen.quiet; held = seen.held; calls = folder.calls; failures = folder.failures }
 
 -- What is kept in a Maildir while a text is delivered into it, whatever the outcome.
-pub record KeepsText (spared : Spared) (text : Mailbox) (old new : HeldMaildir) : Type 0 where
+pub record KeepsText (spared : Spared) (text : Text) (old new : HeldMaildir) : Type 0 where
   -- A power cut leaves no part of one of its messages, if it left none before. Messages of other texts survive a power cut, if they did before.
   pub intact : AreIntact spared text.messages old.may_leave → AreIntact spared text.messages new.may_leave
   pub still : (others : List Message) → AreNamed others → AreAlike others text.messages →
@@ -49,7 +49,7 @@ pub record KeepsText (spared : Spared) (text : Mailbox) (old new : HeldMaildir) 
       Stays spared others old.files old.may_leave new.files new.may_leave
 
 -- A text was delivered into a Maildir whose files were sound for it, and this report is true of that.
-pub record StoresText (spared : Spared) (report : Report) (text : Mailbox) (old new : HeldMaildir) : Type 0 where
+pub record StoresText (spared : Spared) (report : Report) (text : Text) (old new : HeldMaildir) : Type 0 where
   pub reports : ReportsMessages spared text.messages old.files report
   -- The bases of its messages have a home, and `tmp` has no converter's name with a spared base.
   pub known : HasAlso spared text.messages old.files new.files
@@ -62,7 +62,7 @@ pub record KeepsSource (before after : Option (List ℕ)) (old new : SeenMaildir
   pub budget : ReadsAtMost before after (2 ^ 56)
   -- If the system does as assumed, this holds for each text that the source may have had.
   pub still_rooted : Honestly old.honest (λ _. old.held.rooted → new.held.rooted)
-  pub texts : Honestly old.honest (λ spared. (text : Mailbox) → HasItsMessages text → Possible before after text.bytes →
+  pub texts : Honestly old.honest (λ spared. (text : Text) → HasItsMessages text → Possible before after text.bytes →
       KeepsText spared text old.held new.held)
   -- This holds whatever the system and other programs do.
   pub touches : TouchedConverters old.held.touched new.held.touched
@@ -75,7 +75,7 @@ pub record StoresSource (report : Report) (before after : Option (List ℕ)) (ol
   pub calls : CountsRun report old.calls new.calls
   -- If the system does as assumed, this holds for each text that the source may have had.
   pub honest : Honestly old.honest new.honest
-  pub texts : Honestly old.honest (λ spared. (text : Mailbox) → HasItsMessages text → Possible before after text.bytes →
+  pub texts : Honestly old.honest (λ spared. (text : Text) → HasItsMessages text → Possible before after text.bytes →
       AllSpared spared (IsSoundAt old.held.files) text.messages → StoresText spared report text old.held new.held)
   -- This holds if no other program acts.
   pub quiet : old.quiet → new.quiet

@@ -1,5 +1,6 @@
 // Why a command was not done.
-ghost use Rattle.std.specs.Prelude.{◌≡◌, ◌+◌, ◌-◌, ◌^◌, min};
+ghost use Rattle.std.specs.Prelude.{◌≡◌, ◌+◌};
+ghost use Rattle.maildir_run.specs.Counting.{capped};
 ghost use Rattle.maildir_run.specs.declared.fault.RunFault.TheVariants.{OutOfMemory};
 ghost use Rattle.maildir_disk.specs.Faults.{IsFailedAllocation};
 ghost use Rattle.maildir_commands.specs.declared.fault.Fault.TheVariants.{Run};
@@ -72,7 +73,7 @@ impl Fault {
     /// The fault of a folder that could not be synced, after a run that made this many calls of it.
     pub(crate) fn of_sync(fault: FolderFault, calls: u64) -> Fault
         ensures { result ≡ fault_or fault
-            (Fault.Run (RunFault.FolderFailed (min (calls + 1) (2 ^ 64 - 1)))) }
+            (Fault.Run (RunFault.FolderFailed (capped (calls + 1)))) }
     {
         match fault {
             FolderFault::OutOfMemory => Fault::Run(RunFault::OutOfMemory),

@@ -3,7 +3,7 @@
 ghost use Rattle.std.specs.Prelude.{◌≡◌, ℕ, List, [], ◌∷◌, All, AllPairs, Contains, IsTrue};
 ghost use Rattle.maildir_name.specs.Names.{is_converter_name};
 ghost use Rattle.maildir_run.specs.Files.{AreFewer, Spared};
-ghost use Rattle.maildir_run.specs.Several.{Mailbox};
+ghost use Rattle.maildir_run.specs.Several.{Text};
 ghost use Rattle.maildir_run.specs.Touched.{FileName};
 ghost use Rattle.maildir_commands.specs.Machines.{AreFit, FitTogether, HasItsMessages};
 ghost use Rattle.maildir_commands.specs.Machines.{IsSoundFor, OthersStay};
@@ -28,14 +28,14 @@ use crate::machine::Machine;
 /// long as the power is not cut, whatever the statuses are. All of this is said of the messages
 /// whose bases other programs spare, whatever they do to all others.
 pub fn after_any_commands<M: Machine>()
-    ensures begins { (spared : Spared) (path : List ℕ) (texts : List Mailbox) (old : M) →
+    ensures begins { (spared : Spared) (path : List ℕ) (texts : List Text) (old : M) →
         IsNewTo spared texts ((M.at old).maildir_at path) →
         IsSoundFor spared texts ((M.at old).maildir_at path) }
-    ensures promised { (spared : Spared) (path : List ℕ) (texts : List Mailbox)
+    ensures promised { (spared : Spared) (path : List ℕ) (texts : List Text)
         (episodes : List Episode) (old new : M) →
         AnyCommands spared M.at path texts episodes old new →
         Promised spared texts episodes ((M.at new).maildir_at path) }
-    ensures kept { (spared : Spared) (path : List ℕ) (texts : List Mailbox)
+    ensures kept { (spared : Spared) (path : List ℕ) (texts : List Text)
         (earlier later : List Episode) (old mid new : M) →
         AnyCommands spared M.at path texts earlier old mid →
         IsHistory spared M.at path texts later mid new → ¬ Contains later Cut →
@@ -49,7 +49,7 @@ pub fn after_any_commands<M: Machine>()
 /// has ended with status 0, or has printed anything, each message is in exactly one file, and so it
 /// is after any power cut.
 pub fn after_commands_over_one_text<M: Machine>()
-    ensures { (path : List ℕ) (text : Mailbox) (episodes : List Episode) (old new : M) →
+    ensures { (path : List ℕ) (text : Text) (episodes : List Episode) (old new : M) →
         (M.at old).honest all_whole → HasItsMessages text →
         IsNewTo all_whole (text ∷ []) ((M.at old).maildir_at path) →
         IsHistory all_whole M.at path (text ∷ []) episodes old new →
@@ -60,7 +60,7 @@ pub fn after_commands_over_one_text<M: Machine>()
 /// different messages of them have different digests. So a mailbox that grew between two commands
 /// fits with what it was, whatever SHA-256 does.
 pub fn texts_fit()
-    ensures { (texts : List Mailbox) → All HasItsMessages texts →
+    ensures { (texts : List Text) → All HasItsMessages texts →
         AllPairs FitTogether texts →
         AreFit texts }
 {}
@@ -81,12 +81,12 @@ pub fn only_own_files_are_touched<M: Machine>()
 /// A power cut or a history in which more messages are spared is also one in which fewer are
 /// spared, if both sets say the same of renames in a cut. So the promise on any commands holds for
 /// each set of messages that stayed spared, whatever was done to all others.
-pub fn fewer_are_spared<M: Machine>()
+pub fn histories_spare_fewer<M: Machine>()
     ensures cut { (fewer more : Spared) (path : List ℕ) (old new : M) → AreFewer fewer more →
         (IsTrue more.whole → IsTrue fewer.whole) →
         LeftByPowerCut more ((M.at old).maildir_at path) ((M.at new).maildir_at path) →
         LeftByPowerCut fewer ((M.at old).maildir_at path) ((M.at new).maildir_at path) }
-    ensures history { (fewer more : Spared) (path : List ℕ) (texts : List Mailbox)
+    ensures history { (fewer more : Spared) (path : List ℕ) (texts : List Text)
         (episodes : List Episode) (old new : M) → AreFewer fewer more →
         (IsTrue more.whole → IsTrue fewer.whole) →
         (M.at old).honest more →

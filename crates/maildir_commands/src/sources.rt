@@ -1,9 +1,10 @@
 // The sources of a conversion, each with a run of its own and its line.
-ghost use Rattle.std.specs.Prelude.{◌≡◌, ◌⊎◌, ◌+◌, ◌*◌, ◌-◌, ◌^◌, min, [], map, string_bytes};
+ghost use Rattle.std.specs.Prelude.{◌≡◌, ◌⊎◌, ◌+◌, ◌*◌, [], map, string_bytes};
 ghost use Rattle.std.specs.Prelude.{IfErr, OnOk};
 ghost use Rattle.std.specs.Io.Buffered.{writer_buffer, writer_contents};
 ghost use Rattle.std.specs.Io.KnownBytes.{Keeps};
 ghost use Rattle.mbox_text.specs.Writing.{Writes};
+ghost use Rattle.maildir_run.specs.Counting.{capped};
 ghost use Rattle.maildir_commands.specs.Opening.{OpensSource};
 ghost use Rattle.maildir_commands.specs.Report.{report_line};
 ghost use Rattle.maildir_commands.specs.Seen.{seen_with};
@@ -104,7 +105,7 @@ pub fn deliver<S: System, I: Read, W: Write + Drop>(
 // How many calls of the folder a run with this report made: three listings, a removal for each file
 // that was swept, and a write and a placement for each message that was placed.
 fn calls_of(report: Report) -> u64
-    ensures { result ≡ min (3 + report.swept + 2 * report.placed) (2 ^ 64 - 1) }
+    ensures { result ≡ capped (3 + report.swept + 2 * report.placed) }
 {
     report
         .placed

@@ -29,7 +29,7 @@ pub use Rattle.maildir_run.specs.declared.fault.RunFault.{RunFault}
 pub use Rattle.maildir_run.specs.declared.folder.Sub.{Sub}
 pub use Rattle.maildir_run.specs.declared.folder.Sub.TheVariants.{Cur, New, Tmp}
 pub use Rattle.maildir_run.specs.declared.report.Report.{Report}
-pub use Rattle.maildir_disk.specs.Look.{IsFarAhead, IsSettled}
+pub use Rattle.maildir_disk.specs.Stamps.{IsFarAhead, IsSettled}
 pub use Rattle.maildir_disk.specs.PowerCuts.{AreAlike, AreIntact, AreSafe, HasBody, IsIntact, IsSingle, KeepsHeld, KeepsNames, LeftByOthers, Survive, Syncs}
 pub use Rattle.maildir_disk.specs.Private.Writing.{Written}
 pub use Rattle.maildir_disk.specs.Quiet.{AppendedQuietly}

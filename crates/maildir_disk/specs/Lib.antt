@@ -13,7 +13,7 @@ pub mod PowerCuts
 -- What a run over one text, and a sync, leave of the messages of other texts.
 pub mod Others
 -- How the stamp of a folder compares with the clock.
-pub mod Look
+pub mod Stamps
 -- Why a listing cannot wait less than it does.
 pub mod Misread
 -- What a system call does while no other program acts.

@@ -10,7 +10,7 @@ ghost use Rattle.maildir_run.specs.Seen.{CallOf, ListingOf};
 ghost use Rattle.maildir_disk.specs.Placing.{WasGone};
 ghost use Rattle.maildir_disk.specs.PowerCuts.{KeepsNames};
 ghost use Rattle.maildir_disk.specs.Private.Effects.{Counts, SameCounts, TakesEffect};
-ghost use Rattle.maildir_disk.specs.Private.Look.{ReadsDurably};
+ghost use Rattle.maildir_disk.specs.Private.OneMoment.{ReadsDurably};
 ghost use Rattle.maildir_disk.specs.Seen.{StaysFailed, SyncsMaildir, seen_of, system_of};
 ghost use Rattle.maildir_disk.specs.SeenSystem.{Looks};
 

@@ -1,6 +1,6 @@
 //! Laws that follow from what is assumed of a system alone.
 ghost use Rattle.std.specs.Prelude.{ℕ, ◌≤◌};
-ghost use Rattle.maildir_disk.specs.Look.{IsFarAhead, IsSettled};
+ghost use Rattle.maildir_disk.specs.Stamps.{IsFarAhead, IsSettled};
 ghost use Rattle.maildir_disk.specs.Misread.{Misread};
 
 /// No shorter wait will do: if a folder's stamp has not settled when a listing begins, and is not

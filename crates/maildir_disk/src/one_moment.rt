@@ -3,7 +3,7 @@ ghost use Rattle.std.specs.Prelude.{◌≡◌, ◌-◌, ◌≤◌, ◌↔◌, If
 ghost use Rattle.std.specs.Duration.{as_nanos};
 ghost use Rattle.std.specs.IoError.{error_kind};
 ghost use Rattle.std.specs.Time.{instant_nanos, system_time_nanos};
-ghost use Rattle.maildir_disk.specs.Private.Look.{Attempts, IsAged, ReadsAtOnce, Watches};
+ghost use Rattle.maildir_disk.specs.Private.OneMoment.{Attempts, IsAged, ReadsAtOnce, Watches};
 ghost use Rattle.maildir_disk.specs.World.{margin_of};
 
 use crate::system::System;
@@ -37,8 +37,8 @@ pub(crate) fn names_of_one_moment<S: System>(system: &mut S, sub: Sub) -> io::Re
     let start = system.instant()?;
     for _ in 0..u64::MAX {
         let pause = match take_names(system, sub)? {
-            Look::Taken(names) => return Ok(names),
-            Look::Wait(pause) => pause,
+            Attempt::Taken(names) => return Ok(names),
+            Attempt::Wait(pause) => pause,
         };
         if is_over(start, system.instant()?) {
             break;
@@ -71,33 +71,33 @@ fn give_up() -> io::Result<Vec<String>>
 
 // The result of one attempt.
 #[derive(Drop)]
-enum Look {
+enum Attempt {
     // The names at one moment.
     Taken(Vec<String>),
     // The folder is changing: try again after this pause.
     Wait(Duration),
 }
 
-fn take_names<S: System>(system: &mut S, sub: Sub) -> io::Result<Look>
+fn take_names<S: System>(system: &mut S, sub: Sub) -> io::Result<Attempt>
     ensures { Attempts sub (S.at system.old) result (S.at system.new) }
 {
     let stamp = system.stamp(sub)?;
     let now = system.now()?;
     let age = Age::of(stamp, now);
     if let Age::Young(pause) = age {
-        return Ok(Look::Wait(pause));
+        return Ok(Attempt::Wait(pause));
     }
     let Some(names) = watched_names(system, sub, stamp)? else {
-        return Ok(Look::Wait(pause()));
+        return Ok(Attempt::Wait(pause()));
     };
     if let Age::Settled = age {
-        return Ok(Look::Taken(names));
+        return Ok(Attempt::Taken(names));
     }
     let later = system.now()?;
     if let Age::Ahead = Age::of(stamp, later) {
-        Ok(Look::Taken(names))
+        Ok(Attempt::Taken(names))
     } else {
-        Ok(Look::Wait(pause()))
+        Ok(Attempt::Wait(pause()))
     }
 }
 

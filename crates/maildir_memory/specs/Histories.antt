@@ -3,7 +3,7 @@ use Rattle.std.specs.Prelude.{◌≡◌, ℕ, Bool, true, false, not, List, [], 
 use Rattle.maildir_run.specs.Delivery.{Message, IsHome, IsMissing}
 use Rattle.maildir_run.specs.Files.{Files, Spared, is_name}
 use Rattle.maildir_run.specs.Runs.{Chain}
-use Rattle.maildir_run.specs.Several.{Mailbox}
+use Rattle.maildir_run.specs.Several.{Text}
 use Rattle.maildir_commands.specs.Episodes.{Episode, IsHistory, LeadsTo}
 use Rattle.maildir_commands.specs.Episodes.Episode.{Conversion, Cut, Others}
 use Rattle.maildir_commands.specs.Machines.{AreFit, HasItsMessages}
@@ -37,7 +37,7 @@ pub data Step : Type 0 where
   Happening : (episode : Episode) → (there : Bool) → Step
 
 -- A step leads from one moment to another. Other programs spare all messages but this one, which is at home after each command.
-abbrev pub Leads : Mailbox → Message → Bool → Step → PlainMachine → PlainMachine → Type 0
+abbrev pub Leads : Text → Message → Bool → Step → PlainMachine → PlainMachine → Type 0
 Leads text gone whole (Delivering into status line) old new =
     (ran : LeadsTo (all_but gone whole) seen_machine (codes "M") (text ∷ []) (Conversion (text ∷ []) status (Some []) (Some line)) old new)
     × (ran.words ≡ convert_words into (codes "mail" ∷ [])) × IsHome (files_at new) gone
@@ -47,7 +47,7 @@ Leads text gone whole (Happening episode there) old new =
 -- All that is assumed of any commands holds of this history. One command is interrupted, and a power cut takes away what it delivered, and the Maildir.
 -- The next ends with 1 while it prints. Somebody deletes a message. The last command has another word for the Maildir, ends with 0, and delivers the message
 -- again. Then a power cut takes nothing away.
-pub record CanHappen (text : Mailbox) (gone : Message) (whole : Bool) (start : PlainMachine) : Type 0 where
+pub record CanHappen (text : Text) (gone : Message) (whole : Bool) (start : PlainMachine) : Type 0 where
   pub honest : (seen_machine start).honest (all_but gone whole)
   pub fit : AreFit (text ∷ [])
   pub is_new : IsNewTo (all_but gone whole) (text ∷ []) ((seen_machine start).maildir_at (codes "M"))
@@ -59,7 +59,7 @@ pub record CanHappen (text : Mailbox) (gone : Message) (whole : Bool) (start : P
 
 -- All that is assumed of commands over one text holds of this history, in which nothing is deleted: a command is interrupted, and a power cut takes away
 -- what it delivered. The next ends with 1 while it prints, and a power cut takes nothing away. The last ends with 0, and then comes a power cut again.
-pub record CanHappenToOne (text : Mailbox) (start : PlainMachine) : Type 0 where
+pub record CanHappenToOne (text : Text) (start : PlainMachine) : Type 0 where
   pub honest : (seen_machine start).honest all_whole
   pub is : HasItsMessages text
   pub is_new : IsNewTo all_whole (text ∷ []) ((seen_machine start).maildir_at (codes "M"))

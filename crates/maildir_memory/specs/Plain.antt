@@ -2,7 +2,7 @@
 use Rattle.std.specs.Prelude.{◌≡◌, ◌⊎◌, ℕ, List, [], Option, Some, None, IfSome, IsFalse, IsTrue, string_bytes}
 use Rattle.std.specs.Time.{system_time_nanos}
 use Rattle.maildir_run.specs.Files.{Files}
-use Rattle.maildir_run.specs.MemFiles.{no_files}
+use Rattle.maildir_run.specs.Files.{no_files}
 use Rattle.maildir_run.specs.MemFolder.{IsQuiet, SameScript, fail_from_of, files_of}
 use Rattle.maildir_run.specs.declared.in_memory.mem_folder.MemFolder.{MemFolder}
 use Rattle.maildir_disk.specs.declared.faults.OpenFault.TheVariants.{Locked}

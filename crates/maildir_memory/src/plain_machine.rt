@@ -7,7 +7,7 @@ ghost use Rattle.maildir_disk.specs.Faults.{IsFailedAllocation};
 ghost use Rattle.maildir_memory.specs.Histories.{CanHappen, CanHappenToOne, seen_machine};
 ghost use Rattle.maildir_memory.specs.Plain.{machine_with};
 ghost use Rattle.maildir_run.specs.Delivery.{Message};
-ghost use Rattle.maildir_run.specs.Several.{IsMailbox, Mailbox};
+ghost use Rattle.maildir_run.specs.Several.{IsText, Text};
 
 use crate::plain_system::PlainSystem;
 use maildir_commands::Machine;
@@ -41,13 +41,13 @@ impl<'a> PlainMachine<'a> {
         ensures has { (result.text.now ≡ text.now) × ¬ (result.maildir ≡ None) }
         ensures times { IfSome result.maildir (λ system.
             (system.stamp ≡ stamp) × (system.clock ≡ clock)) }
-        ensures happens { (mailbox : Mailbox) (gone : Message) (rest : List Message)
-            (whole : Bool) → IsMailbox mailbox → mailbox.messages ≡ gone ∷ rest →
+        ensures happens { (mailbox : Text) (gone : Message) (rest : List Message)
+            (whole : Bool) → IsText mailbox → mailbox.messages ≡ gone ∷ rest →
             text.now ≡ mailbox.bytes → CanHappen mailbox gone whole result }
-        ensures to_one { (mailbox : Mailbox) (first : Message) (rest : List Message) →
-            IsMailbox mailbox → mailbox.messages ≡ first ∷ rest → text.now ≡ mailbox.bytes →
+        ensures to_one { (mailbox : Text) (first : Message) (rest : List Message) →
+            IsText mailbox → mailbox.messages ≡ first ∷ rest → text.now ≡ mailbox.bytes →
             CanHappenToOne mailbox result }
-        ensures example { text.now ≡ codes "From a\n\nFrom b\n\n" → (mailbox : Mailbox) ×
+        ensures example { text.now ≡ codes "From a\n\nFrom b\n\n" → (mailbox : Text) ×
             (gone : Message) × (kept : Message) × (mailbox.messages ≡ gone ∷ kept ∷ []) ×
             ((whole : Bool) → CanHappen mailbox gone whole result) }
     {

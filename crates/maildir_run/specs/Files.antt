@@ -3,7 +3,7 @@ use Rattle.std.specs.Prelude.{◌≡◌, ◌&&◌, not, ℕ, Bool, true, false, 
 use Rattle.std.specs.declared.cmp.Ordering.{Ordering}
 use Rattle.std.specs.Ordering.{nat_cmp, eq_by_cmp}
 use Rattle.std.specs.Cmp.Lexicographic.{slice_cmp}
-use Rattle.std.specs.FinMap.{FinMap, get, insert, remove, entries, values, contains_key, retain_keys, from_entries}
+use Rattle.std.specs.FinMap.{FinMap, empty, get, insert, remove, entries, values, contains_key, retain_keys, from_entries}
 use Rattle.maildir_name.specs.Names.{base, is_converter_name, is_converter_base}
 
 -- names in the order of their bytes (this project's own rule)
@@ -23,6 +23,10 @@ pub record Files : Type 0 where
   pub tmp : FileMap
   pub new : FileMap
   pub cur : FileMap
+
+-- no files
+abbrev pub no_files : Files
+no_files = record { tmp = empty; new = empty; cur = empty }
 
 -- whether a name has this base
 abbrev pub has_base : List ℕ → List ℕ → Bool

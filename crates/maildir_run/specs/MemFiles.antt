@@ -1,6 +1,6 @@
 -- The files of a folder in memory.
 use Rattle.std.specs.Prelude.{ℕ, List}
-use Rattle.std.specs.FinMap.{insert, remove, empty}
+use Rattle.std.specs.FinMap.{insert, remove}
 use Rattle.maildir_run.specs.declared.folder.Sub.{Sub}
 use Rattle.maildir_run.specs.declared.folder.Sub.TheVariants.{Tmp, New, Cur}
 use Rattle.maildir_run.specs.declared.in_memory.mem_files.MemFiles.{MemFiles}
@@ -9,10 +9,6 @@ use Rattle.maildir_run.specs.Files.{Files}
 -- the files of three folders in memory
 abbrev pub files_in : MemFiles → Files
 files_in files = record { tmp = files.in_tmp; new = files.in_new; cur = files.in_cur }
-
--- no files
-abbrev pub no_files : Files
-no_files = record { tmp = empty; new = empty; cur = empty }
 
 -- the files with one more in this folder, in place of what stood under its name
 abbrev pub with_file : Sub → List ℕ → List ℕ → Files → Files

@@ -1,5 +1,5 @@
 -- What a folder in memory shows.
-use Rattle.std.specs.Prelude.{◌≡◌, ◌⊎◌, ℕ, ◌+◌, ◌-◌, ◌^◌, min, List, [], Option, IsFalse, Result, IsErrOf}
+use Rattle.std.specs.Prelude.{◌≡◌, ◌⊎◌, ℕ, ◌+◌, List, [], Option, IsFalse, Result, IsErrOf}
 use Rattle.maildir_run.specs.declared.folder.FolderFault.{FolderFault}
 use Rattle.maildir_run.specs.declared.folder.FolderFault.TheVariants.{OutOfMemory}
 use Rattle.maildir_run.specs.declared.in_memory.mem_folder.MemFolder.{MemFolder}
@@ -8,6 +8,7 @@ use Rattle.maildir_run.specs.declared.in_memory.script.Mode.{Mode}
 use Rattle.maildir_run.specs.declared.in_memory.script.Mode.TheVariants.{Plain}
 use Rattle.maildir_run.specs.declared.in_memory.script.ScriptLine.{ScriptLine}
 use Rattle.maildir_run.specs.Calls.{Call}
+use Rattle.maildir_run.specs.Counting.{capped}
 use Rattle.maildir_run.specs.Files.{Files}
 use Rattle.maildir_run.specs.MemFiles.{files_in}
 use Rattle.maildir_run.specs.Seen.{Seen}
@@ -39,7 +40,7 @@ fail_from_of m = m.fail_from
 
 -- the number of the next call; the count stops at its greatest number
 abbrev pub next_call : MemFolder → ℕ
-next_call m = min (call_count m + 1) (2 ^ 64 - 1)
+next_call m = capped (call_count m + 1)
 
 -- the mode of the next call
 abbrev pub next_mode : MemFolder → Mode

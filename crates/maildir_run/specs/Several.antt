@@ -12,46 +12,46 @@ use Rattle.maildir_run.specs.Texts.{MessagesOf}
 use Rattle.maildir_run.specs.Runs.{Chain, IsRun, Link, Ran, Acted}
 
 -- a text, with its messages as a folder is to have them
-pub record Mailbox : Type 0 where
+pub record Text : Type 0 where
   pub bytes : List ℕ
   pub messages : List Message
 
 -- the messages are those of the text, which has fewer than 2^63 bytes
-pub record IsMailbox (text : Mailbox) : Type 0 where
+pub record IsText (text : Text) : Type 0 where
   pub are : MessagesOf text.bytes text.messages
   pub small : length text.bytes < 2 ^ 63
 
 -- this holds of each message of each of the texts
-abbrev pub OfEach : (Message → Type 0) → List Mailbox → Type 0
+abbrev pub OfEach : (Message → Type 0) → List Text → Type 0
 OfEach P texts = All (λ text. All P text.messages) texts
 
 -- whether a base is that of a message of one of the texts
-abbrev pub is_base_of_any : List Mailbox → List ℕ → Bool
+abbrev pub is_base_of_any : List Text → List ℕ → Bool
 is_base_of_any texts b = list_any (λ text. is_base_of text.messages b) texts
 
 -- whether one of the texts gives this body to this base
-abbrev pub gives : List Mailbox → List ℕ → List ℕ → Bool
+abbrev pub gives : List Text → List ℕ → List ℕ → Bool
 gives texts b body = list_any (λ text. list_any (λ m. is_name m.target.base b && bytes_eq m.body body) text.messages) texts
 
 -- The message's base has exactly one home, which holds a body that one of the texts gives to this base.
-pub record HoldsGiven (texts : List Mailbox) (s : Files) (m : Message) : Type 0 where
+pub record HoldsGiven (texts : List Text) (s : Files) (m : Message) : Type 0 where
   pub body : List ℕ
   pub given : IsTrue (gives texts m.target.base body)
   pub homes_are : homes s m.target.base ≡ body ∷ []
 
 -- A folder is sound for several texts, as against an earlier moment: each base of their messages that is spared has at most one home, which
 -- holds a body that one of the texts gives to this base, and the homes of each other base that is spared hold what they held.
-pub record SoundForAll (spared : Spared) (texts : List Mailbox) (old new : Files) : Type 0 where
+pub record SoundForAll (spared : Spared) (texts : List Text) (old new : Files) : Type 0 where
   pub own : All (λ text. AllSpared spared (λ m. IsMissing new m ⊎ HoldsGiven texts new m) text.messages) texts
   pub others : (b : List ℕ) → IsTrue (is_spared spared b) → IsFalse (is_base_of_any texts b) → IsPermutation (homes old b) (homes new b)
 
 -- a link of a chain over several texts: a run over one of them with this answer, or an action of another program
 pub data LinkOver : Type 0 where
-  RanOver : (text : Mailbox) → (answer : Result Report RunFault) → LinkOver
+  RanOver : (text : Text) → (answer : Result Report RunFault) → LinkOver
   ActedOver : (action : Action) → LinkOver
 
 -- a link of a chain over one text, as one over several
-abbrev pub link_over : Mailbox → Link → LinkOver
+abbrev pub link_over : Text → Link → LinkOver
 link_over text (Ran answer) = RanOver text answer
 link_over text (Acted action) = ActedOver action
 
@@ -61,16 +61,16 @@ link_of (RanOver _ answer) = Ran answer
 link_of (ActedOver action) = Acted action
 
 -- a link leads from one moment to another
-abbrev pub LinkedOver : Spared → List Mailbox → LinkOver → Files → Files → Type 0
+abbrev pub LinkedOver : Spared → List Text → LinkOver → Files → Files → Type 0
 LinkedOver spared texts (RanOver text answer) old new = Contains texts text × IsRun spared text.bytes old answer new
 LinkedOver spared texts (ActedOver action) old new = new ≡ acted spared action old
 
 -- a finite chain of runs over any of the texts, with any answers, and of other programs' actions
-abbrev pub RunsOver : Spared → List Mailbox → List LinkOver → Files → Files → Type 0
+abbrev pub RunsOver : Spared → List Text → List LinkOver → Files → Files → Type 0
 RunsOver spared texts = Chain (LinkedOver spared texts)
 
 -- distinct bodies of the texts have distinct digests
-abbrev pub HaveOwnDigests : List Mailbox → Type 0
+abbrev pub HaveOwnDigests : List Text → Type 0
 HaveOwnDigests texts = OfEach (λ m. OfEach (λ n. digest_text m.body ≡ digest_text n.body → m.body ≡ n.body) texts) texts
 
 -- no base that is spared and has the digest of this body has a home
@@ -78,8 +78,8 @@ abbrev pub IsUnknown : Spared → Files → List ℕ → Type 0
 IsUnknown spared s body = (b : List ℕ) → IsTrue (is_spared spared b) → take 64 b ≡ digest_text body → homes s b ≡ []
 
 -- What several texts and the folder have to meet before any run over them.
-pub record AreFresh (spared : Spared) (texts : List Mailbox) (s : Files) : Type 0 where
-  pub are : All IsMailbox texts
+pub record AreFresh (spared : Spared) (texts : List Text) (s : Files) : Type 0 where
+  pub are : All IsText texts
   pub own : HaveOwnDigests texts
   pub unknown : OfEach (λ m. IsUnknown spared s m.body) texts
 
@@ -90,7 +90,7 @@ pub record IsThere (spared : Spared) (n : ℕ) (body : List ℕ) (s : Files) : T
   pub no_other : (b : List ℕ) → IsTrue (is_spared spared b) → take 64 b ≡ digest_text body → ((k : ℕ) → k < n → numbered body (k + 1) ≢ b) → homes s b ≡ []
 
 -- how often a body stands in a text
-abbrev pub count_in : List ℕ → Mailbox → ℕ
+abbrev pub count_in : List ℕ → Text → ℕ
 count_in body text = count_by (λ m. bytes_eq body m.body) text.messages
 
 -- the greatest count of a body in a text of which a run of the chain answered Ok, or 0 if none did

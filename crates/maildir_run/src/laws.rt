@@ -22,7 +22,7 @@ ghost use Rattle.maildir_run.specs.Delivery.{IsSoundAt, IsSpared, AllSpared, Are
 ghost use Rattle.maildir_run.specs.Delivery.{Delivered};
 ghost use Rattle.maildir_run.specs.Texts.{MessagesOf};
 ghost use Rattle.maildir_run.specs.Runs.{CountsRun, Link, IsRun, ReportsMessages, Runs};
-ghost use Rattle.maildir_run.specs.Several.{Mailbox, IsMailbox, OfEach, SoundForAll, LinkOver, RunsOver};
+ghost use Rattle.maildir_run.specs.Several.{Text, IsText, OfEach, SoundForAll, LinkOver, RunsOver};
 ghost use Rattle.maildir_run.specs.Several.{link_over, link_of, AreFresh, StandsAfter};
 ghost use Rattle.maildir_run.specs.Several.LinkOver.{RanOver};
 ghost use Rattle.maildir_run.specs.Alone.{alone};
@@ -167,16 +167,16 @@ pub fn after_any_runs()
 /// which a run was made. Each message of a text of which a run answered Ok is at home. The premise
 /// is that distinct bodies have distinct digests.
 pub fn several_texts()
-    ensures sound { (spared : Spared) (texts : List Mailbox) (links : List LinkOver)
+    ensures sound { (spared : Spared) (texts : List Text) (links : List LinkOver)
         (old new : Files) →
         AreFresh spared texts old → RunsOver spared texts links old new →
         SoundForAll spared texts old new }
-    ensures counted { (spared : Spared) (texts : List Mailbox) (links : List LinkOver)
+    ensures counted { (spared : Spared) (texts : List Text) (links : List LinkOver)
         (old new : Files) →
         AreFresh spared texts old → RunsOver spared texts links old new →
         OfEach (λ m. StandsAfter spared links m.body new) texts }
-    ensures whole { (spared : Spared) (texts : List Mailbox) (links : List LinkOver)
-        (old new : Files) (text : Mailbox) (report : Report) →
+    ensures whole { (spared : Spared) (texts : List Text) (links : List LinkOver)
+        (old new : Files) (text : Text) (report : Report) →
         AreFresh spared texts old → RunsOver spared texts links old new →
         Contains links (RanOver text (Ok report)) →
         AllSpared spared (IsHome new) text.messages }
@@ -185,12 +185,12 @@ pub fn several_texts()
 /// The words for several texts mean, for a list of one text, what the words for one text mean: the
 /// same folders are sound, and the same chains lead from one moment to another.
 pub fn one_text()
-    ensures sound { (spared : Spared) (text : Mailbox) (old new : Files) → IsMailbox text →
+    ensures sound { (spared : Spared) (text : Text) (old new : Files) → IsText text →
         SoundForAll spared (text ∷ []) old new ↔ Sound spared text.messages old new }
-    ensures runs { (spared : Spared) (text : Mailbox) (links : List LinkOver) (old new : Files) →
+    ensures runs { (spared : Spared) (text : Text) (links : List LinkOver) (old new : Files) →
         RunsOver spared (text ∷ []) links old new →
         Runs spared text.bytes (map link_of links) old new }
-    ensures runs_over { (spared : Spared) (text : Mailbox) (links : List Link) (old new : Files) →
+    ensures runs_over { (spared : Spared) (text : Text) (links : List Link) (old new : Files) →
         Runs spared text.bytes links old new →
         RunsOver spared (text ∷ []) (map (link_over text) links) old new }
 {}

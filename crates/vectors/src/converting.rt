@@ -4,8 +4,8 @@ use crate::runs::{Answer, folder_of, run_from, run_over, same_files};
 use crate::scripts::{Run, Scene, go, go_all};
 use crate::sources::{Cut, FAULTY, LIMIT};
 use crate::texts::{
-    ABC, ABC_LINE, ABC_OLD, EMPTY_ONE, EMPTY_TWO, File, HELLO_LINE, ONE_SEEN, REFUSED, THREE,
-    TWO_EMPTY, TWO_LINES, Text, UNENDED, texts,
+    ABC, ABC_LINE, ABC_OLD, ALL_THREE, EMPTY_ONE, EMPTY_TWO, File, HELLO_LINE, ONE_SEEN, REFUSED,
+    THREE, TWO_EMPTY, TWO_LINES, Text, UNENDED, texts,
 };
 use maildir_run::{FolderFault, MemFolder, RunFault, Sub};
 use std::alloc::Global;
@@ -117,12 +117,6 @@ struct Prefix<'a> {
     report: (u64, u64, u64, u64),
     files: &'a [File<'a>],
 }
-
-const ALL_THREE: &[File<'_>] = &[
-    (Sub::New, EMPTY_ONE, b""),
-    (Sub::New, EMPTY_TWO, b""),
-    (Sub::New, ABC, b"abc"),
-];
 
 const PREFIXES: &[Prefix<'_>] = &[
     Prefix {

@@ -2,7 +2,7 @@
 use crate::rows::same;
 use crate::runs::{Answer, run_over};
 use crate::scripts::{Deed, Run, Scene, go, go_all, script_of};
-use crate::texts::{ABC, EMPTY_ONE, EMPTY_TWO, File, THREE, UNENDED};
+use crate::texts::{ABC, ALL_THREE, EMPTY_ONE, EMPTY_TWO, File, THREE, UNENDED};
 use maildir_run::{MemFolder, Mode, RunFault, Sub};
 use std::alloc::Global;
 use std::test::Fail;
@@ -19,12 +19,6 @@ const LAST_WRITTEN: &[File<'_>] = &[
     (Sub::Tmp, ABC, b"abc"),
     (Sub::New, EMPTY_ONE, b""),
     (Sub::New, EMPTY_TWO, b""),
-];
-
-const ALL_THREE: &[File<'_>] = &[
-    (Sub::New, EMPTY_ONE, b""),
-    (Sub::New, EMPTY_TWO, b""),
-    (Sub::New, ABC, b"abc"),
 ];
 
 // A quiet run that finds and sweeps this many, and leaves the three messages and nothing else.

@@ -49,6 +49,13 @@ pub(crate) type Message<'a> = (&'a [u8], &'a [u8]);
 /// A file: its folder, its name and its bytes.
 pub(crate) type File<'a> = (Sub, &'a str, &'a [u8]);
 
+/// What a run over `THREE` places.
+pub(crate) const ALL_THREE: &[File<'_>] = &[
+    (Sub::New, EMPTY_ONE, b""),
+    (Sub::New, EMPTY_TWO, b""),
+    (Sub::New, ABC, b"abc"),
+];
+
 /// A text, its messages, their regular spelling and their table, and the files that a run makes of
 /// it.
 pub(crate) struct Text<'a> {

@@ -11,7 +11,7 @@ use std::test::Fail;
 // What is written.
 #[derive(Clone, Copy, Debug)]
 enum Form {
-    List,
+    Table,
     Spelling,
 }
 
@@ -30,7 +30,7 @@ fn writes<N: Debug>(
     wanted: Wanted<'_>,
 ) -> Result<(), Fail> {
     let answer = match form {
-        Form::List => list_text(alloc, source, &mut out, reads.min(LIMIT)),
+        Form::Table => list_text(alloc, source, &mut out, reads.min(LIMIT)),
         Form::Spelling => rewrite(alloc, source, &mut out, reads.min(LIMIT)),
     };
     let got = (answer, Shown(out.taken.as_slice()));
@@ -43,7 +43,7 @@ fn worked_texts(rt: HostRuntime) -> Result<(), Fail> {
     let alloc = rt.alloc();
     for text in texts() {
         let answer = Ok(text.messages.len() as u64);
-        for (form, written) in [(Form::List, text.list), (Form::Spelling, text.spelling)] {
+        for (form, written) in [(Form::Table, text.list), (Form::Spelling, text.spelling)] {
             for piece in [1, 11, 65_536] {
                 let row = (text.name, piece);
                 let mut source = Cut::pieces(text.text, piece);
@@ -59,7 +59,7 @@ fn worked_texts(rt: HostRuntime) -> Result<(), Fail> {
 #[test]
 fn refusals(rt: HostRuntime) -> Result<(), Fail> {
     let alloc = rt.alloc();
-    for form in [Form::List, Form::Spelling] {
+    for form in [Form::Table, Form::Spelling] {
         for &((text, piece, then), reads, fault, made) in FAULTY {
             let row = (text, reads);
             let mut source = Cut::new(text.as_bytes(), piece, then);
@@ -82,7 +82,7 @@ fn listing_source_fails(rt: HostRuntime) -> Result<(), Fail> {
         let mut source = Cut::broken(TWO_LINES, 22, piece);
         let out = Narrow::new(alloc, 1000, 1000, true);
         let wanted = (Err(RunFault::ReadFault), LINE);
-        writes(alloc, &piece, Form::List, &mut source, LIMIT, out, wanted)?;
+        writes(alloc, &piece, Form::Table, &mut source, LIMIT, out, wanted)?;
     }
     Ok(())
 }
@@ -101,7 +101,7 @@ fn outputs(rt: HostRuntime) -> Result<(), Fail> {
         let mut source = Cut::pieces(UNENDED, 65_536);
         let out = Narrow::new(alloc, 4, 4, fails);
         let wanted: Wanted<'_> = (Err(RunFault::OutputFault), b"1 ba");
-        writes(alloc, &fails, Form::List, &mut source, LIMIT, out, wanted)?;
+        writes(alloc, &fails, Form::Table, &mut source, LIMIT, out, wanted)?;
     }
     Ok(())
 }

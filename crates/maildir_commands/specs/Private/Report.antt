@@ -6,7 +6,7 @@ use Rattle.maildir_run.specs.Delivery.{IsSwept}
 use Rattle.maildir_run.specs.declared.report.Report.{Report}
 use Rattle.maildir_run.specs.Foreign.{KeepsForeign}
 use Rattle.maildir_run.specs.Runs.{ReportsMessages}
-use Rattle.maildir_run.specs.Several.{Mailbox}
+use Rattle.maildir_run.specs.Several.{Text}
 use Rattle.maildir_run.specs.Touched.{TouchedConverters}
 use Rattle.maildir_commands.specs.Machines.{AreAllSafe, AreFit, HasAlso, HeldMaildir, IsSafeIn, IsSoundFor, OthersStay, bytes_of}
 use Rattle.maildir_commands.specs.declared.fault.Fault.{Fault}
@@ -18,14 +18,14 @@ use Rattle.maildir_commands.specs.Sources.{SeenMaildir}
 use Rattle.maildir_run.specs.Files.{Honestly, Spared}
 
 -- The line of a true report of the text was written, or a prefix of it; the text is in the Maildir, and survives a power cut.
-pub record PrintsOne (spared : Spared) (old new : HeldMaildir) (text : Mailbox) (was is : Option (List ℕ)) : Type 0 where
+pub record PrintsOne (spared : Spared) (old new : HeldMaildir) (text : Text) (was is : Option (List ℕ)) : Type 0 where
   pub report : Report
   pub true_of : ReportsMessages spared text.messages old.files report
   pub safe : IsSafeIn spared new text
   pub line : AppendsPrefix was is (report_line report)
 
 -- What came of delivering one text.
-pub record DeliversOne {A E : Type 0} (spared : Spared) (answer : Result A E) (text : Mailbox) (old new : HeldMaildir) (was is : Option (List ℕ)) : Type 0 where
+pub record DeliversOne {A E : Type 0} (spared : Spared) (answer : Result A E) (text : Text) (old new : HeldMaildir) (was is : Option (List ℕ)) : Type 0 where
   pub safe : OnOk answer (IsSafeIn spared new text)
   pub line : OnOk answer (PrintsReport was is (ReportsMessages spared text.messages old.files))
   pub known : OnOk answer (HasAlso spared text.messages old.files new.files)
@@ -35,7 +35,7 @@ pub record DeliversOne {A E : Type 0} (spared : Spared) (answer : Result A E) (t
   pub still_rooted : old.rooted → new.rooted
 
 -- What came of delivering texts into a Maildir that was sound for them.
-pub record DeliversTexts {A E : Type 0} (spared : Spared) (answer : Result A E) (texts : List Mailbox) (old new : HeldMaildir)
+pub record DeliversTexts {A E : Type 0} (spared : Spared) (answer : Result A E) (texts : List Text) (old new : HeldMaildir)
     (was is : Option (List ℕ)) : Type 0 where
   pub safe : OnOk answer (AreAllSafe spared texts new)
   pub each : OnOk answer (PrintsEach spared old texts was is)
@@ -51,7 +51,7 @@ pub record DeliversFiles (first : Option (List ℕ)) (files : List (List ℕ)) (
   pub opens : OpensSources old new
   pub printed : OnOk answer (PrintsReports was is (1 + length files))
   pub cause : Honestly old.honest (λ _. (name : List ℕ) → first ≡ Some (old.text_of name) → IfErr answer (IsOfFiles old (name ∷ files)))
-  pub delivers : Honestly old.honest (λ spared. start.honest spared → (texts : List Mailbox) (text : List ℕ) → first ≡ Some text →
+  pub delivers : Honestly old.honest (λ spared. start.honest spared → (texts : List Text) (text : List ℕ) → first ≡ Some text →
       bytes_of texts ≡ text ∷ map old.text_of files → AreFit texts → IsSoundFor spared texts start.held →
       DeliversTexts spared answer texts start.held now.held was is)
   pub touches : TouchedConverters start.held.touched now.held.touched

@@ -1,7 +1,7 @@
 -- What came of a request, and what it did to Maildirs.
 use Rattle.std.specs.Prelude.{ℕ, List, OnOk, Result}
 use Rattle.maildir_run.specs.Files.{Honestly}
-use Rattle.maildir_run.specs.Several.{Mailbox}
+use Rattle.maildir_run.specs.Several.{Text}
 use Rattle.maildir_commands.specs.declared.fault.Fault.{Fault}
 use Rattle.maildir_commands.specs.Machines.{AreFit, GivesTexts, IsSoundFor}
 use Rattle.maildir_commands.specs.Private.Report.{DeliversTexts}
@@ -14,7 +14,7 @@ use Rattle.maildir_commands.specs.Words.Request.{ToWrite, ToConvert}
 abbrev pub DeliversAsked : Request → Result Unit Fault → SeenProgram → SeenProgram → Type 0
 DeliversAsked (ToWrite form file) answer old new = Unit {0}
 DeliversAsked (ToConvert maildir files) answer old new =
-    Honestly old.machine.honest (λ spared. (texts : List Mailbox) → GivesTexts old.machine.text_of old.input new.input files texts
+    Honestly old.machine.honest (λ spared. (texts : List Text) → GivesTexts old.machine.text_of old.input new.input files texts
     → AreFit texts → IsSoundFor spared texts (old.machine.maildir_at maildir)
     → DeliversTexts spared answer texts (old.machine.maildir_at maildir) (new.machine.maildir_at maildir) old.output new.output)
 

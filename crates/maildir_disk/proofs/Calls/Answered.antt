@@ -9,7 +9,7 @@ use Rattle.maildir_disk.proofs.Common.{Files, Call, Called, CalledQuietly, IsFou
 use Rattle.maildir_disk.specs.declared.disk_folder.DiskFolder.{DiskFolder}
 use Rattle.maildir_disk.specs.declared.system.System.{Ghosts}
 use Rattle.maildir_disk.specs.Private.Effects.{Counts, SameCounts, TakesEffect}
-use Rattle.maildir_disk.specs.Private.Look.{ReadsAtOnce, ReadsDurably}
+use Rattle.maildir_disk.specs.Private.OneMoment.{ReadsAtOnce, ReadsDurably}
 use Rattle.maildir_disk.specs.Quiet.{AreNames}
 use Rattle.maildir_disk.specs.Seen.{seen_of, system_of}
 use Rattle.maildir_disk.specs.SeenSystem.{SeenSystem, TakesFromTmp}

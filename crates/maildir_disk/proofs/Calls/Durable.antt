@@ -1,6 +1,6 @@
 -- A listing, and then a sync of the folder.
 use Rattle.std.proofs.Common.{◌≡◌, ℕ, List, [], ◌∷◌, ◌++◌, map, append_assoc, IsTrue, Result, Ok, Err, refl, sym, ap, subst, ◌∙◌}
-use Rattle.std.proofs.Common.{Vec, String, Global, is_some, Option, Some, None, false, IsErr}
+use Rattle.std.proofs.Common.{Vec, String, Global, is_some, IsErr}
 use Rattle.std.proofs.lemmas.Bool.{false≢true}
 use Rattle.maildir_disk.proofs.Calls.Listings.{reading_failed}
 use Rattle.maildir_disk.proofs.Common.{get, contains_key, Sub, Tmp, New, Cur, Files, FileMap, Other, Again, after, Lists, Listing, Spared, is_spared}
@@ -13,7 +13,7 @@ use Rattle.maildir_run.proofs.Names.Maps.{none_if_not_some}
 use Rattle.maildir_run.proofs.Tasks.Firsts.{leaves_none_new, leaves_none_of}
 use Rattle.maildir_run.specs.Files.{Honestly}
 use Rattle.maildir_disk.specs.SeenSystem.{Looks, SeenSystem}
-use Rattle.maildir_disk.specs.Private.Look.{ReadsAtOnce, ReadsDurably}
+use Rattle.maildir_disk.specs.Private.OneMoment.{ReadsAtOnce, ReadsDurably}
 use Rattle.maildir_disk.proofs.Calls.Answered.{whole_both}
 use Rattle.maildir_disk.proofs.Calls.Looking.{looks_then}
 use Rattle.maildir_disk.proofs.Calls.Passing.{after-others, others_whole}

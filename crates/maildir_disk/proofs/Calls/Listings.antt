@@ -5,9 +5,9 @@ use Rattle.std.specs.Duration.{as_nanos}
 use Rattle.std.specs.declared.time.Duration.{Duration}
 use Rattle.std.specs.declared.time.SystemTime.{SystemTime}
 use Rattle.maildir_disk.proofs.Common.{Sub, IsSettled, IsFarAhead, IsStampWithin, system_time_nanos}
-use Rattle.maildir_disk.specs.declared.one_moment.Look.{Look}
-use Rattle.maildir_disk.specs.declared.one_moment.Look.TheVariants.{Taken, Wait}
-use Rattle.maildir_disk.specs.Private.Look.{Attempts, ReadsAtOnce, Watches}
+use Rattle.maildir_disk.specs.declared.one_moment.Attempt.{Attempt}
+use Rattle.maildir_disk.specs.declared.one_moment.Attempt.TheVariants.{Taken, Wait}
+use Rattle.maildir_disk.specs.Private.OneMoment.{Attempts, ReadsAtOnce, Watches}
 use Rattle.maildir_disk.specs.SeenSystem.{Looks, ReadsFolder, ReadsStamp, SeenSystem}
 use Rattle.maildir_disk.proofs.Calls.Looking.{looks_then}
 use Rattle.maildir_disk.proofs.Calls.Passing.{acts_failed, acts_on, exact_if_ahead, exact_if_settled, lists_at, lists_later, watched}
@@ -35,7 +35,7 @@ watches {sub} {stamp} {a} {b} {c} reads stamps same = record {
 }
 
 -- ---- one attempt
-pub attempt_failed : {E : Type 0} (sub : Sub) {a b : SeenSystem} (outcome : Result Look E) → IsErr outcome → Looks a b → Attempts sub a outcome b
+pub attempt_failed : {E : Type 0} (sub : Sub) {a b : SeenSystem} (outcome : Result Attempt E) → IsErr outcome → Looks a b → Attempts sub a outcome b
 attempt_failed sub (Ok _) is_err looks = absurd (false≢true is_err)
 attempt_failed sub (Err _) is_err looks = record { looks = looks; looked = looks.acts; exact = λ q. tt; pauses = tt }
 

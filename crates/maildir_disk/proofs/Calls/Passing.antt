@@ -1,9 +1,9 @@
 -- Consequences of what is assumed of a system.
 use Rattle.std.proofs.Common.{◌≡◌, inl, inr, ℕ, ◌+◌, ◌≤◌, ◌<◌, List, [], ◌∷◌, ◌++◌, map, append_assoc, refl, sym, ◌∙◌, ap}
 use Rattle.std.proofs.Common.{subst, arith, IsPermutation, rules}
-use Rattle.maildir_disk.proofs.Common.{keys, Sub, Files, Action, acted, all_acted, Call, Listing, Move, Other, Again, moved, after, folder_of, IsWhole, Lists}
+use Rattle.maildir_disk.proofs.Common.{keys, Sub, Files, Action, acted, all_acted, Call, Listing, Move, Other, Again, after, folder_of, IsWhole, Lists}
 use Rattle.maildir_disk.proofs.Common.{AnyMoves, IsSettled, IsFarAhead, World, margin_of, IsOfChange, Acts, Passes, IsStampWithin, ReadsNames, Spared}
-use Rattle.maildir_disk.specs.Private.Look.{Watched}
+use Rattle.maildir_disk.specs.Private.OneMoment.{Watched}
 use Rattle.maildir_run.proofs.Call.Moves.{after-append}
 
 pub all_acted-append : (spared : Spared) (xs ys : List Action) (s : Files) → all_acted spared (xs ++ ys) s ≡ all_acted spared ys (all_acted spared xs s)

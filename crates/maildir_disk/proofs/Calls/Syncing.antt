@@ -7,7 +7,7 @@ use Rattle.maildir_disk.proofs.Common.{Call, Sub}
 use Rattle.maildir_disk.specs.declared.disk_folder.DiskFolder.{DiskFolder}
 use Rattle.maildir_disk.specs.declared.system.System.{Ghosts}
 use Rattle.maildir_disk.specs.Private.Effects.{TakesEffect}
-use Rattle.maildir_disk.specs.Private.Look.{ReadsAtOnce}
+use Rattle.maildir_disk.specs.Private.OneMoment.{ReadsAtOnce}
 use Rattle.maildir_disk.specs.Seen.{system_of}
 use Rattle.maildir_disk.specs.SeenSystem.{Asks, Looks}
 use Rattle.maildir_disk.proofs.Left.Lefts.{left_none}

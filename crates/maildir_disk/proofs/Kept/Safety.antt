@@ -1,5 +1,5 @@
 -- A run, and then a sync: what a power cut leaves of the run's messages.
-use Rattle.std.proofs.Common.{ℕ, ◌<◌, ◌^◌, List, length, Ok, Result, OnOk, IsOk, rules, get_or, subst, sym}
+use Rattle.std.proofs.Common.{ℕ, ◌<◌, ◌^◌, List, length, Ok, Result, OnOk, IsOk, get_or, subst, sym}
 use Rattle.maildir_disk.proofs.Common.{RunFault, Report, Follows, Message, AreNamed, IsHome, IsSoundAt, Files, ReportsMessages, IsRun, MessagesOf, text_named}
 use Rattle.maildir_disk.proofs.Common.{AreAlike, AreIntact, AreSafe, LeftByOthers, Survive, Syncs, World, Acts, Spared, AllSpared, spared_named}
 use Rattle.maildir_disk.proofs.Left.Lefts.{if_ok}

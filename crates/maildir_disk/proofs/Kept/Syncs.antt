@@ -1,5 +1,5 @@
 -- What a power cut leaves after a sync of `new`, and then of `cur`.
-use Rattle.std.proofs.Common.{◌≡◌, ℕ, false, List, [], ◌∷◌, ◌++◌, Option, Some, None, IsTrue, refl, sym, ap, subst, ◌∙◌, Contains, is_some, arith, get_or}
+use Rattle.std.proofs.Common.{◌≡◌, ℕ, List, [], ◌∷◌, ◌++◌, IsTrue, refl, sym, ap, subst, ◌∙◌, Contains, arith, get_or}
 use Rattle.std.proofs.Common.{rules}
 use Rattle.maildir_disk.proofs.Common.{contains_key, Contains-append_left, Contains-append_right, Sub, New}
 use Rattle.maildir_disk.proofs.Common.{Cur, World, Acts, Message, AreNamed, IsHome, FileMap, Files, Action, acted, all_acted, held_under, acted_kept}

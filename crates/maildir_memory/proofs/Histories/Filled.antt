@@ -12,7 +12,7 @@ use Rattle.maildir_run.proofs.Call.Moves.{both_none, held_none, none_held, permu
 use Rattle.maildir_run.proofs.Names.Maps.{alike, get_inserted, is_name-refl, is_name-true}
 use Rattle.maildir_run.specs.Delivery.{IsSoundAt, IsSwept}
 use Rattle.maildir_run.specs.Files.{KeepsSpared, is_spared_name}
-use Rattle.maildir_run.specs.MemFiles.{no_files}
+use Rattle.maildir_run.specs.Files.{no_files}
 use Rattle.maildir_memory.specs.Histories.{all_but}
 
 -- a message is put at its target

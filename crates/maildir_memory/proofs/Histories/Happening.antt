@@ -12,9 +12,9 @@ use Rattle.maildir_run.proofs.Source.PossibleMessages.{whole_messages}
 use Rattle.maildir_run.specs.Cuts.{Came}
 use Rattle.maildir_run.specs.Delivery.{AllSpared, IsHome, IsMissing, IsSoundAt, Message}
 use Rattle.maildir_run.specs.Files.{Files, KeepsHomes, Outside, Spared, homes}
-use Rattle.maildir_run.specs.MemFiles.{no_files}
+use Rattle.maildir_run.specs.Files.{no_files}
 use Rattle.maildir_run.specs.MemFolder.{IsQuiet}
-use Rattle.maildir_run.specs.Several.{IsMailbox, Mailbox}
+use Rattle.maildir_run.specs.Several.{IsText, Text}
 use Rattle.maildir_run.specs.Texts.{MessagesOf}
 use Rattle.maildir_run.specs.declared.report.Report.{Report}
 use Rattle.maildir_disk.proofs.Left.LeftHomes.{first_in, none_in}
@@ -34,28 +34,28 @@ use Rattle.maildir_memory.specs.declared.plain_system.PlainSystem.{PlainSystem}
 use Rattle.maildir_memory.proofs.Histories.Filled.{filled, filled_home, filled_sound, filled_swept, first_none, no_homes, put_spares, without_first}
 use Rattle.maildir_memory.proofs.Histories.Moments.{IsPart, sound_intact, system_as, system_with}
 
-module _ (text : Mailbox) (are : IsMailbox text) where
+module _ (text : Text) (are : IsText text) where
   same_messages : (ms : List Message) → MessagesOf text.bytes text.messages → MessagesOf text.bytes ms → ms ≡ text.messages
   same_messages ms (inl one) other = whole_messages text.bytes one.0 one.1 other ∙ sym one.2
   same_messages ms (inr none) (inl other) = absurd (none.0 other.0 other.1)
   same_messages ms (inr none) (inr other) = other.1 ∙ sym none.1
 
-  one_text : (other : Mailbox) → IsMailbox other → other.bytes ≡ text.bytes → other ≡ text
+  one_text : (other : Text) → IsText other → other.bytes ≡ text.bytes → other ≡ text
   one_text other is same =
       let messages = same_messages other.messages are.are (subst (λ t. MessagesOf t other.messages) same is.are) in
       λ i. record { bytes = same i; messages = messages i }
 
   -- texts with these bytes are one text, with the same bases and bodies
-  only_text : (texts : List Mailbox) → All HasItsMessages texts → bytes_of texts ≡ text.bytes ∷ []
-      → (other : Mailbox) × (texts ≡ other ∷ []) × AreSame text.messages other.messages
+  only_text : (texts : List Text) → All HasItsMessages texts → bytes_of texts ≡ text.bytes ∷ []
+      → (other : Text) × (texts ≡ other ∷ []) × AreSame text.messages other.messages
   only_text [] all same = cc
   only_text (one ∷ []) all same =
       let is = All-head HasItsMessages one [] all in
       let bytes : one.bytes ≡ text.bytes = cc in
-      (one, refl, subst (λ (t : Mailbox). AreSame t.messages one.messages) (one_text (placed is) (is_placed is) bytes) (same_placed is))
+      (one, refl, subst (λ (t : Text). AreSame t.messages one.messages) (one_text (placed is) (is_placed is) bytes) (same_placed is))
   only_text (one ∷ other ∷ texts) all same = let longer : 2 ≤ 1 = omega (arith, ap length same) in cc
 
-  of_one : (t : Mailbox) (P : Mailbox → Type 0) → P t → All P (t ∷ [])
+  of_one : (t : Text) (P : Text → Type 0) → P t → All P (t ∷ [])
   of_one t P h = All-cons P t [] h (All-nil P)
 
   module _ (gone : Message) (rest : List Message) (first : text.messages ≡ gone ∷ rest) where
@@ -88,7 +88,7 @@ module _ (text : Mailbox) (are : IsMailbox text) where
         subst (λ s. IsIntact spared s o) (sym (part.only left may)) (sound_intact spared h.files o (part_sound h part o alike))
 
     -- a text with these bases and bodies
-    module _ (other : Mailbox) (same : AreSame text.messages other.messages) where
+    module _ (other : Text) (same : AreSame text.messages other.messages) where
       own : AreAlike other.messages text.messages
       own = all_same same (λ b body. All (λ m. m.target.base ≡ b → m.body ≡ body) text.messages) (own_alike (of_mailbox are))
 
@@ -119,7 +119,7 @@ module _ (text : Mailbox) (are : IsMailbox text) where
       all_part rooted = part all rooted (λ b. inr refl)
 
       -- ---- from a part to all
-      module _ (spared : Spared) (rooted : Bool) (other : Mailbox) (same : AreSame text.messages other.messages) where
+      module _ (spared : Spared) (rooted : Bool) (other : Text) (same : AreSame text.messages other.messages) where
         others_stay : (old : HeldMaildir) → IsPart all old → OthersStay spared (other ∷ []) old (held all rooted)
         others_stay old was others named alike =
             let own : AreAlike others text.messages = alike_same (turned same) others (All-head (λ t. AreAlike others t.messages) other [] alike) in
@@ -186,15 +186,15 @@ module _ (text : Mailbox) (are : IsMailbox text) where
       -- ---- a command that leaves all of them
       module _ (spared : Spared) (by : List ℕ) (old : PlainMachine) (was : IsPart all (held_by old.maildir)) (given : old.text.now ≡ text.bytes)
           (status : ℕ) (rooted : Bool) (line : List ℕ) (done : status ≡ 0 → IsTrue rooted) (found : (held_by old.maildir).rooted → IsTrue rooted)
-          (printed : (spared : Spared) (other : Mailbox) (same : AreSame text.messages other.messages) → status ≡ 1
+          (printed : (spared : Spared) (other : Text) (same : AreSame text.messages other.messages) → status ≡ 1
           → Printed spared rooted other same line) where
         abbrev words : List (List ℕ)
         words = convert_words by (codes "mail" ∷ [])
 
-        abbrev Brings : Spared → List Mailbox → Type 0
+        abbrev Brings : Spared → List Text → Type 0
         Brings spared texts = Delivers spared status texts (held_by old.maildir) (held all rooted) (Some []) (Some line)
 
-        converts : (spared : Spared) (into : List ℕ) (files : List (List ℕ)) (texts : List Mailbox) → words ≡ convert_words into files
+        converts : (spared : Spared) (into : List ℕ) (files : List (List ℕ)) (texts : List Text) → words ≡ convert_words into files
             → GivesTexts (seen_machine old).text_of (Some []) (Some []) files texts → All HasItsMessages texts → Brings spared texts
         converts spared into files texts asked gives have =
             let file : codes "mail" ∷ [] ≡ files = ap (drop 2) asked in

@@ -2,7 +2,7 @@
 ghost use Rattle.std.specs.Prelude.{◌≡◌, ◌+◌, ◌<◌, ◌≤◌, ◌==◌, ◌||◌, [], IsFalse, IsTrue, false};
 ghost use Rattle.std.specs.Prelude.{if◌then◌else◌, length, min, not, slice_index_or};
 ghost use Rattle.maildir_run.specs.MemFolder.{IsQuiet, files_of};
-ghost use Rattle.maildir_run.specs.MemFiles.{no_files};
+ghost use Rattle.maildir_run.specs.Files.{no_files};
 
 use super::MemSystem;
 use maildir_run::MemFolder;

@@ -8,7 +8,7 @@ use Rattle.maildir_run.proofs.Common.{Action, acted, homes, is_name, Message, Is
 use Rattle.maildir_name.specs.declared.target.Place.TheVariants.{New}
 use Rattle.maildir_name.proofs.Digests.{same_digest-refl, same_digest-text}
 use Rattle.maildir_name.proofs.BaseLemmas.{numbered-converter}
-use Rattle.maildir_run.specs.Several.{Mailbox, IsMailbox, OfEach, is_base_of_any, HoldsGiven, SoundForAll, LinkOver, RanOver, ActedOver}
+use Rattle.maildir_run.specs.Several.{Text, IsText, OfEach, is_base_of_any, HoldsGiven, SoundForAll, LinkOver, RanOver, ActedOver}
 use Rattle.maildir_run.specs.Several.{LinkedOver, RunsOver, HaveOwnDigests, IsUnknown, count_in, most_delivered, most_tried, StandsAfter}
 use Rattle.maildir_run.proofs.Names.Maps.{is_name-refl}
 use Rattle.maildir_run.proofs.Chains.Chains.{chain_fold, chain_keeps, chain_at}
@@ -47,8 +47,8 @@ nobody : Message
 nobody = record { target = record { base = []; place = New; name = [] }; body = [] }
 
 -- one of the texts has this body
-pub record IsBodyOf (texts : List Mailbox) (b : List ℕ) : Type 0 where
-  pub text : Mailbox
+pub record IsBodyOf (texts : List Text) (b : List ℕ) : Type 0 where
+  pub text : Text
   pub among : Contains texts text
   pub m : Message
   pub inside : Contains text.messages m
@@ -61,7 +61,7 @@ pub record Grown (spared : Spared) (links : List LinkOver) (b : List ℕ) (n : �
   pub at_least : most_delivered b links ≤ level.n
   pub at_most : level.n ≤ max n (most_tried b links)
 
-grown_ran : {spared : Spared} {text : Mailbox} (answer : Result Report RunFault) {links : List LinkOver} {b : List ℕ} {n : ℕ} {mid new : Files}
+grown_ran : {spared : Spared} {text : Text} (answer : Result Report RunFault) {links : List LinkOver} {b : List ℕ} {n : ℕ} {mid new : Files}
     (r : Rise spared b (count_in b text) n answer mid) → Grown spared links b r.now new → Grown spared (RanOver text answer ∷ links) b n new
 grown_ran (Ok report) r g = record {
   level = g.level;
@@ -77,7 +77,7 @@ grown_ran (Err fault) r g = record {
 }
 
 -- the home of a message holds what a text gives to its base
-pub home_given : {texts : List Mailbox} {k : ℕ} (d : Mailbox) → k < length texts → {i : ℕ} (e : Message)
+pub home_given : {texts : List Text} {k : ℕ} (d : Text) → k < length texts → {i : ℕ} (e : Message)
     → i < length (get_or texts k d).messages → {s : Files} → IsSoundAt s (get_or (get_or texts k d).messages i e)
     → IsMissing s (get_or (get_or texts k d).messages i e) ⊎ HoldsGiven texts s (get_or (get_or texts k d).messages i e)
 home_given d below e inside (inl none) = inl none
@@ -89,7 +89,7 @@ home_given {texts} {k} d below {i} e inside (inr home) =
 
 -- ---- texts whose distinct bodies have distinct digests
 -- a text of which a run answered Ok is among those whose counts are taken
-delivered_count : (b : List ℕ) (links : List LinkOver) (text : Mailbox) (report : Report)
+delivered_count : (b : List ℕ) (links : List LinkOver) (text : Text) (report : Report)
     → Contains links (RanOver text (Ok report)) → count_in b text ≤ most_delivered b links
 delivered_count b [] text report (k, below, is) = absurd (omega (arith, below))
 delivered_count b (link ∷ links) text report (zero, below, is) = rw is (omega arith)
@@ -98,26 +98,26 @@ delivered_count b (RanOver other (Ok _) ∷ links) text report (suc k, below, is
 delivered_count b (RanOver other (Err _) ∷ links) text report (suc k, below, is) = delivered_count b links text report (k, omega (arith, below), is)
 delivered_count b (ActedOver action ∷ links) text report (suc k, below, is) = delivered_count b links text report (k, omega (arith, below), is)
 
-module _ (spared : Spared) (texts : List Mailbox) (are : All IsMailbox texts) (own : HaveOwnDigests texts) where
+module _ (spared : Spared) (texts : List Text) (are : All IsText texts) (own : HaveOwnDigests texts) where
   -- each body of the texts is there so often
   abbrev pub AreLevel : Files → Type 0
   AreLevel s = (b : List ℕ) → IsBodyOf texts b → Level spared b s
 
-  module _ (text : Mailbox) (among : Contains texts text) where
+  module _ (text : Text) (among : Contains texts text) where
     own_in : (b : List ℕ) → IsBodyOf texts b → All (λ m. digest_text m.body ≡ digest_text b → m.body ≡ b) text.messages
     own_in b is =
         All-from_get_or (λ (m : Message). digest_text m.body ≡ digest_text b → m.body ≡ b) text.messages nobody (λ i below e.
         let m = get_or text.messages i nobody in
         let of_m =
-        All-contains (λ (x : Mailbox). All (λ (n : Message). OfEach (λ n'. digest_text n.body ≡ digest_text n'.body → n.body ≡ n'.body) texts) x.messages)
+        All-contains (λ (x : Text). All (λ (n : Message). OfEach (λ n'. digest_text n.body ≡ digest_text n'.body → n.body ≡ n'.body) texts) x.messages)
         texts text own among i nobody below in
-        let of_text = All-contains (λ (x : Mailbox). All (λ (n : Message). digest_text m.body ≡ digest_text n.body → m.body ≡ n.body) x.messages)
+        let of_text = All-contains (λ (x : Text). All (λ (n : Message). digest_text m.body ≡ digest_text n.body → m.body ≡ n.body) x.messages)
         texts is.text of_m is.among in
         All-contains (λ (n : Message). digest_text m.body ≡ digest_text n.body → m.body ≡ n.body)
         is.text.messages is.m of_text is.inside (e ∙ ap digest_text (sym is.is)) ∙ is.is)
 
-    text_at : IsMailbox text
-    text_at = All-contains IsMailbox texts text are among
+    text_at : IsText text
+    text_at = All-contains IsText texts text are among
 
     level_sound_at : (s : Files) → AreLevel s → AllSpared spared (IsSoundAt s) text.messages
     level_sound_at s levels i d below =
@@ -159,7 +159,7 @@ module _ (spared : Spared) (texts : List Mailbox) (are : All IsMailbox texts) (o
     small = l.small;
   }
 
-  ran_levels : (text : Mailbox) → Contains texts text → (answer : Result Report RunFault) (old new : Files)
+  ran_levels : (text : Text) → Contains texts text → (answer : Result Report RunFault) (old new : Files)
       → AreLevel old → IsRun spared text.bytes old answer new → AreLevel new
   ran_levels text among answer old new levels run b is =
       rise_level text among answer new b (levels b is).n (levels b is).small (ran_rise text among answer old new levels run b is (levels b is))
@@ -192,7 +192,7 @@ module _ (spared : Spared) (texts : List Mailbox) (are : All IsMailbox texts) (o
       → AreLevel old → LinkedOver spared texts link old new → IsPermutation (homes old x) (homes new x)
   linked_others x named off (RanOver text answer) old new levels (among, run) =
       let keeps = run.keeps text.messages (text_at text among).are (level_sound_at text among old levels) in
-      keeps.sound.others x named (none_at (λ (y : Mailbox). is_base_of y.messages x) texts off among)
+      keeps.sound.others x named (none_at (λ (y : Text). is_base_of y.messages x) texts off among)
   linked_others x named off (ActedOver action) old new levels e = rw e (acted_kept spared x named action old)
 
   chain_others : (links : List LinkOver) (old new : Files) → AreLevel old → RunsOver spared texts links old new → (x : List ℕ)
@@ -205,7 +205,7 @@ module _ (spared : Spared) (texts : List Mailbox) (are : All IsMailbox texts) (o
 
   abbrev levels_at_start : (s : Files) → OfEach (λ m. IsUnknown spared s m.body) texts → AreLevel s
   levels_at_start s unknown b is =
-      let of_text = All-contains (λ (x : Mailbox). All (λ (m : Message). IsUnknown spared s m.body) x.messages) texts is.text unknown is.among in
+      let of_text = All-contains (λ (x : Text). All (λ (m : Message). IsUnknown spared s m.body) x.messages) texts is.text unknown is.among in
       let of_m = All-contains (λ (m : Message). IsUnknown spared s m.body) is.text.messages is.m of_text is.inside in
       record {
         n = 0;
@@ -216,7 +216,7 @@ module _ (spared : Spared) (texts : List Mailbox) (are : All IsMailbox texts) (o
         small = omega arith;
       }
 
-  body_at : (k : ℕ) (d : Mailbox) → k < length texts → (i : ℕ) (e : Message)
+  body_at : (k : ℕ) (d : Text) → k < length texts → (i : ℕ) (e : Message)
       → i < length (get_or texts k d).messages → IsBodyOf texts (get_or (get_or texts k d).messages i e).body
   body_at k d below i e inside = grind (arith, Contains-get_or)
 
@@ -229,7 +229,7 @@ module _ (spared : Spared) (texts : List Mailbox) (are : All IsMailbox texts) (o
       let g = chain_grown links old new runs start b is (levels_at_start old unknown b is) in
       grind arith
 
-  pub chain_whole : (links : List LinkOver) (old new : Files) (text : Mailbox) (report : Report) → OfEach (λ m. IsUnknown spared old m.body) texts
+  pub chain_whole : (links : List LinkOver) (old new : Files) (text : Text) (report : Report) → OfEach (λ m. IsUnknown spared old m.body) texts
       → RunsOver spared texts links old new → Contains links (RanOver text (Ok report))
       → AllSpared spared (IsHome new) text.messages
   chain_whole links old new text report unknown runs ran i d below sp =

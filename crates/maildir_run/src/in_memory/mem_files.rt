@@ -4,7 +4,8 @@ ghost use Rattle.std.specs.Prelude.{string_bytes};
 ghost use Rattle.std.specs.FinMap.{get};
 ghost use Rattle.maildir_run.specs.Calls.{effect, folder_of, IsReady};
 ghost use Rattle.maildir_run.specs.Calls.Call.{Placing, Writing};
-ghost use Rattle.maildir_run.specs.MemFiles.{files_in, no_files, with_file, without_file};
+ghost use Rattle.maildir_run.specs.Files.{no_files};
+ghost use Rattle.maildir_run.specs.MemFiles.{files_in, with_file, without_file};
 
 use crate::folder::Sub;
 use crate::in_memory::file_tree::FileTree;

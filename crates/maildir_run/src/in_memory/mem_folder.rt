@@ -5,7 +5,8 @@ ghost use Rattle.std.specs.FinMap.{get, keys, len};
 ghost use Rattle.std.specs.Option.{option_copied};
 ghost use Rattle.maildir_run.specs.Calls.{folder_of, names_of, CountsFailure};
 ghost use Rattle.maildir_run.specs.Calls.Call.{Listing, Writing, Placing, Removing};
-ghost use Rattle.maildir_run.specs.MemFiles.{no_files, with_file, without_file};
+ghost use Rattle.maildir_run.specs.Files.{no_files};
+ghost use Rattle.maildir_run.specs.MemFiles.{with_file, without_file};
 ghost use Rattle.maildir_run.specs.MemFolder.{files_of, call_count, all_call_count, failure_count};
 ghost use Rattle.maildir_run.specs.MemFolder.{lines_of, seen_of};
 ghost use Rattle.maildir_run.specs.MemFolder.{fail_from_of, IsQuiet, Scripted, SameCounts};
@@ -192,7 +193,7 @@ impl MemFolder {
     }
 
     // Counts a failure if the call has failed.
-    fn count_call<T>(&mut self, answer: Result<T, FolderFault>) -> Result<T, FolderFault>
+    fn count_failure<T>(&mut self, answer: Result<T, FolderFault>) -> Result<T, FolderFault>
         ensures answer { result ≡ answer }
         ensures cause { CountsFailure answer (failure_count self.old) (failure_count self.new) }
         ensures rest { self.new ≡ record self.old { failures = failure_count self.new } }
@@ -219,7 +220,7 @@ impl Folder for MemFolder {
     {
         let mode = self.begin_call()?;
         let answer = self.files.list_in(mode, sub);
-        self.count_call(answer)
+        self.count_failure(answer)
     }
 
     fn write(&mut self, name: &str, bytes: &[u8]) -> Result<(), FolderFault>
@@ -229,7 +230,7 @@ impl Folder for MemFolder {
     {
         let mode = self.begin_call()?;
         let answer = self.files.write_in(mode, name, bytes);
-        self.count_call(answer)
+        self.count_failure(answer)
     }
 
     fn place(&mut self, name: &str, place: Place, target: &str) -> Result<(), FolderFault>
@@ -239,7 +240,7 @@ impl Folder for MemFolder {
     {
         let mode = self.begin_call()?;
         let answer = self.files.place_in(mode, name, place, target);
-        self.count_call(answer)
+        self.count_failure(answer)
     }
 
     fn remove(&mut self, name: &str) -> Result<(), FolderFault>
@@ -248,6 +249,6 @@ impl Folder for MemFolder {
     {
         let mode = self.begin_call()?;
         let answer = self.files.remove_in(mode, name);
-        self.count_call(answer)
+        self.count_failure(answer)
     }
 }

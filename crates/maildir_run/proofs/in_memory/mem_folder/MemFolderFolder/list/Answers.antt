@@ -15,7 +15,7 @@ returns-in_err-mode c =
 
 pub returns : goal.returns
 returns c =
-    let count = c.count_call.ensures in
+    let count = c.count_failure.ensures in
     let answers = c.list_in-answer.ensures.answers in
     let did = scripted {call = Listing c.args.sub} c.in_ok-mode.ensures answers count.answer count.rest in
     record {

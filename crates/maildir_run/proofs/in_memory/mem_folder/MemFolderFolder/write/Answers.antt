@@ -12,7 +12,7 @@ returns-in_err-mode c =
 
 pub returns : goal.returns
 returns c =
-    let count = c.count_call.ensures in
+    let count = c.count_failure.ensures in
     record {
       writes = made c.in_ok-mode.ensures c.write_in-answer.ensures count.answer count.rest count.cause;
       scripted = grind (arith, scripted);

@@ -1,5 +1,5 @@
 use Rattle.maildir_commands.proofs.Fewer.{fewer_cut, fewer_history}
-use Rattle.maildir_commands.proofs.laws.fewer_are_spared.Goals as goal
+use Rattle.maildir_commands.proofs.laws.histories_spare_fewer.Goals as goal
 
 pub returns-clause-cut : goal.returns-clause-cut
 returns-clause-cut g c = λ fewer more maildir old new within as_whole. fewer_cut within as_whole _ _

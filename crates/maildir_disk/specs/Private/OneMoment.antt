@@ -10,10 +10,10 @@ use Rattle.maildir_run.specs.Cuts.{Follows, LeavesListed}
 use Rattle.maildir_run.specs.Files.{Files, Honestly, Spared}
 use Rattle.maildir_disk.specs.declared.one_moment.Age.{Age}
 use Rattle.maildir_disk.specs.declared.one_moment.Age.TheVariants.{Settled, Young, Ahead}
-use Rattle.maildir_disk.specs.declared.one_moment.Look.{Look}
-use Rattle.maildir_disk.specs.declared.one_moment.Look.TheVariants.{Taken, Wait}
+use Rattle.maildir_disk.specs.declared.one_moment.Attempt.{Attempt}
+use Rattle.maildir_disk.specs.declared.one_moment.Attempt.TheVariants.{Taken, Wait}
 use Rattle.maildir_disk.specs.World.{World, Acts, AreUnless, margin_of}
-use Rattle.maildir_disk.specs.Look.{IsFarAhead, IsSettled}
+use Rattle.maildir_disk.specs.Stamps.{IsFarAhead, IsSettled}
 use Rattle.maildir_disk.specs.Quiet.{AreNames}
 use Rattle.maildir_disk.specs.SeenSystem.{Looks, SeenSystem}
 
@@ -35,10 +35,10 @@ WatchedOr spared sub stamp old (Ok None) new = Acts spared old new
 WatchedOr spared sub stamp old (Err _) new = Acts spared old new
 
 -- the names of one moment, or none; other programs may have acted
-abbrev pub LookGives : {E : Type 0} → Spared → Sub → World → Result Look E → World → Type 0
-LookGives spared sub old (Ok (Taken names)) new = Lists spared sub old.files (names_of names) new.files
-LookGives spared sub old (Ok (Wait _)) new = Acts spared old new
-LookGives spared sub old (Err _) new = Acts spared old new
+abbrev pub AttemptGives : {E : Type 0} → Spared → Sub → World → Result Attempt E → World → Type 0
+AttemptGives spared sub old (Ok (Taken names)) new = Lists spared sub old.files (names_of names) new.files
+AttemptGives spared sub old (Ok (Wait _)) new = Acts spared old new
+AttemptGives spared sub old (Err _) new = Acts spared old new
 
 -- the folder's names, if any are returned
 abbrev pub FoundNames : Sub → Files → Option (Vec (String Global) Global) → Type 0
@@ -46,12 +46,12 @@ FoundNames sub s (Some names) = AreNames sub s names
 FoundNames sub s None = Unit {0}
 
 -- the folder's names, if the attempt returned names
-abbrev pub LookGivesQuietly : Sub → Files → Look → Type 0
-LookGivesQuietly sub s (Taken names) = AreNames sub s names
-LookGivesQuietly sub s (Wait _) = Unit {0}
+abbrev pub AttemptGivesQuietly : Sub → Files → Attempt → Type 0
+AttemptGivesQuietly sub s (Taken names) = AreNames sub s names
+AttemptGivesQuietly sub s (Wait _) = Unit {0}
 
 -- an attempt that gave no names is to be followed by a pause
-abbrev pub Pauses : Look → Type 0
+abbrev pub Pauses : Attempt → Type 0
 Pauses (Taken _) = Unit {0}
 Pauses (Wait pause) = 0 < as_nanos pause
 
@@ -63,10 +63,10 @@ pub record Watches {E : Type 0} (sub : Sub) (stamp : ℕ) (old : SeenSystem) (re
   pub exact : old.quiet → IfOk result (FoundNames sub old.world.files)
 
 -- One attempt at a listing was made.
-pub record Attempts {E : Type 0} (sub : Sub) (old : SeenSystem) (result : Result Look E) (new : SeenSystem) : Type 0 where
+pub record Attempts {E : Type 0} (sub : Sub) (old : SeenSystem) (result : Result Attempt E) (new : SeenSystem) : Type 0 where
   pub looks : Looks old new
-  pub looked : Honestly old.honest (λ spared. LookGives spared sub old.world result new.world)
-  pub exact : old.quiet → IfOk result (LookGivesQuietly sub old.world.files)
+  pub looked : Honestly old.honest (λ spared. AttemptGives spared sub old.world result new.world)
+  pub exact : old.quiet → IfOk result (AttemptGivesQuietly sub old.world.files)
   pub pauses : IfOk result Pauses
 
 -- The names of one moment were read, in several attempts.
