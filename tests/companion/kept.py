@@ -33,7 +33,7 @@ PATCH = A + b"\nhello\nFrom the first of May we are here.\n\n"
 # messages of a Takeout
 WORK, PLANS = (
     text.replace(b"\n", b"\nX-GM-THRID: 1\nX-Gmail-Labels: " + labels + b"\n", 1)
-    for text, labels in ((ONE, b"Inbox,Work"), (TWO, b"Sent,Plans"))
+    for text, labels in ((ONE, b"Posteingang,Work"), (TWO, b"Gesendet,Plans"))
 )
 # the statuses of what was done, as the manual has them: what is left, and nothing to be done, have 1; a file that is
 # passed over has 0
