@@ -301,7 +301,7 @@ COPIES = [
         "--drop-deleted",
         B + b"X-Mozilla-Status: 0001\n\n",
     ),
-    (b"Subject: x\n\n", "", "\n    1 | Subject: x\n...\n...\n..."),
+    (b"Subject: x\n\n", "", "not known\n    1 | Subject: x\n...\n...\n..."),
     (b"", "", b""),
 ]  # type: list[tuple[bytes, str, Union[bytes, str]]]
 
