@@ -238,7 +238,7 @@ def a_line_that_is_cut(home: Path) -> None:
     ties = ",".join(argv[argv.index("--of") + 1] for argv in (answers[0]["argv"] for answers in asked))
     words = ["migrate", "--json", "--now", "--as", "unquoted", "--of", ties, "--jobs", "1", "M", "old"]
     ran = run([doing_first(CUTS, home / "bin"), *words], home)
-    equal("why each is left", [row["reason"] for row in ran.rows], ["record", None, None])
+    equal("why each is left", [row["reason"] for row in ran.rows], ["no-room", None, None])
     noted = [line[:12] for line in (home / "M" / RECORD).read_bytes().splitlines() if line.startswith(b"answered")]
     equal("what is noted", noted, [b"answered\t.a\t", b"answered\t.b\t"])
 
