@@ -9,16 +9,16 @@
 //! which paths they get, which fields of a stat(2) become the [`Facts`](maildir_calls::Facts), and
 //! that a list of a folder has all of its entries, unless one fails. Which calls are made, in which
 //! order, and what follows from what they answer is decided in `maildir_calls`, and proved there.
-//! What is proved here is that the calls are safe and end.
+//! What is proved here is that the calls are safe and end. Of [`OpenAt`], which the program does
+//! not use, it is also proved that a Maildir is opened at the path that was named, and that its
+//! folder begins with no calls and no failures.
 //!
 //! ```rust
 //! use maildir_disk::DiskFolder;
-//! use maildir_commands::Machine;
-//! use maildir_host::Computer;
+//! use maildir_host::OpenAt;
 //! use maildir_run::{Folder, Sub};
 //!
-//! let mut machine = Computer::new(&rt, rt.alloc());
-//! let mut folder = DiskFolder::new(machine.open_maildir(path)?);
+//! let mut folder = DiskFolder::open_at(&rt, rt.alloc(), path)?;
 //! assert!(rt; folder.list(Sub::Cur)?.is_empty());
 //! ```
 //!
@@ -28,6 +28,8 @@
 
 mod computer;
 mod host;
+mod open_at;
 
 pub use computer::Computer;
 pub use host::Host;
+pub use open_at::OpenAt;

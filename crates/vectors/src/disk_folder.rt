@@ -1,9 +1,8 @@
 // The calls of a folder on a real disk, one by one. No words of the program make them like this.
 use crate::mem_folder::{answers, lists};
 use crate::rows::{same, same_bytes};
-use maildir_commands::Machine;
 use maildir_disk::DiskFolder;
-use maildir_host::Computer;
+use maildir_host::OpenAt;
 use maildir_run::{Folder, Sub};
 use std::rt::Env;
 use std::test::Fail;
@@ -37,8 +36,7 @@ fn write_again<F: Folder>(rt: HostRuntime, folder: &mut F, root: &str) -> Result
 
 // The calls of a folder below this path answer as they should, and leave these files.
 fn call_all(rt: HostRuntime, root: &str) -> Result<(), Fail> {
-    let mut machine = Computer::new(&rt, rt.alloc());
-    let mut folder = DiskFolder::new(machine.open_maildir(root)?);
+    let mut folder = DiskFolder::open_at(&rt, rt.alloc(), root)?;
     answers(&mut folder, false)?;
     holds(rt, root, "cur/u:2,", b"ab")?;
     write_again(rt, &mut folder, root)?;

@@ -3,9 +3,9 @@ use crate::disk_folder::fresh_path;
 use crate::mem_system::system_of;
 use crate::planning::names;
 use maildir_calls::{Facts, check_own};
-use maildir_commands::{Machine, run};
+use maildir_commands::run;
 use maildir_disk::DiskFolder;
-use maildir_host::Computer;
+use maildir_host::OpenAt;
 use maildir_memory::{MemMachine, MemSystem, Stamps};
 use maildir_name::{Namer, Place};
 use maildir_run::{Folder, MemFolder, Sub, convert};
@@ -111,8 +111,7 @@ fn of_maildir_calls(rt: HostRuntime) -> Result<(), Fail> {
 fn of_maildir_host(rt: HostRuntime) -> Result<(), Fail> {
     let root = fresh_path(rt)?;
     let path = root.as_str();
-    let mut machine = Computer::new(&rt, rt.alloc());
-    let mut folder = DiskFolder::new(machine.open_maildir(path)?);
+    let mut folder = DiskFolder::open_at(&rt, rt.alloc(), path)?;
     assert!(rt; folder.list(Sub::Cur)?.is_empty());
     fs::remove_dir_all(&rt, path)?;
     Ok(())
