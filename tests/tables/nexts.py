@@ -218,5 +218,21 @@ def as_root_types_them(home: Path) -> None:
         equal("the next run", last, "3 mailboxes: 1 done, 1 done before, 1 left")
 
 
+def of_a_tree_below_root(home: Path) -> None:
+    """A folder of mailboxes is its owner's, and the folder in which it is is not: the file is put into the home."""
+    want_users()
+    with users(home):
+        own, tree, name = home / "homes" / USERS[0], home / "spool/tree", USERS[0]
+        theirs(mailbox(tree / "letter", MAIL), name)
+        command = f"exec runuser -u {name} -- mbox2maildir-admin migrate --all --now {own}/Maildir {tree}"
+        commands = {row.name: row.command for row in rows_in(run(["/bin/sh", "-c", command], home)[1]) if row.below}
+        done_by(commands[f"{tree}/letter"], home)
+        equal("what is put aside", [path.read_bytes() for path in own.glob("letter.*/original")], [MAIL])
+        status = run(["/bin/sh", "-c", command], home).status
+        equal("once more", (status, subjects_below(own / "Maildir")), (0, ["one"]))
+
+
 if __name__ == "__main__":
-    check_all(of_a_tree, of_names, nothing_is_replaced, where_none_may_write, as_root_types_them)
+    check_all(
+        of_a_tree, of_names, nothing_is_replaced, where_none_may_write, as_root_types_them, of_a_tree_below_root
+    )
