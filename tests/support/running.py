@@ -13,7 +13,7 @@ import subprocess
 import tempfile
 import time
 from collections.abc import Callable, Mapping, Sequence
-from contextlib import ExitStack
+from contextlib import ExitStack, suppress
 from pathlib import Path
 from typing import IO, Any, NamedTuple, Optional, Union
 
@@ -238,9 +238,21 @@ def wait_for(child: "subprocess.Popen[bytes]", kill: Kill, meanwhile: Callable[[
     while child.poll() is None and time.monotonic() < end:
         meanwhile()
         time.sleep(0.0005)
-    if child.returncode is None:
+    is_late = child.returncode is None
+    if is_late:
         (os.kill if kill.is_alone else os.killpg)(child.pid, signal.SIGKILL)
         child.wait()
+    if kill.event or kill.call or is_late and not kill.is_alone:
+        wait_for_group(child.pid)
+
+
+def wait_for_group(group: int) -> None:
+    """Waits until nothing of a killed group is left: a process may still end a call while its parent is gone."""
+    end = time.monotonic() + PATIENCE
+    with suppress(ProcessLookupError):
+        while time.monotonic() < end:
+            os.killpg(group, 0)
+            time.sleep(0.0005)
 
 
 @functools.lru_cache(maxsize=None)
