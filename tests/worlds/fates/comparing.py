@@ -7,7 +7,7 @@ from collections.abc import Iterator, Sequence
 from pathlib import Path
 from typing import Optional
 
-from tests.support.checks import LATER
+from tests.support.checks import LATER, without_progress
 from tests.support.running import Desk, Row, Run
 from tests.worlds.fates.texts import Fate
 from tests.worlds.fates.world import INBOX, Choice, Thing, World
@@ -41,8 +41,9 @@ class Comparison:
 
     def all_wrong(self) -> Iterator[str]:
         """A line for each thing that is wrong."""
-        if self.ran.err:
-            yield f"standard error: {self.ran.err.strip()[-600:]}"
+        errors = without_progress(self.ran.err)
+        if errors:
+            yield f"standard error: {errors.strip()[-600:]}"
         yield from (f"a row of nothing that was made: {brief(row)}" for row in self.strange)
         for choice in self.world.choices:
             yield from self.wrong_choice(choice)

@@ -11,7 +11,7 @@ from pathlib import Path
 from random import Random
 from typing import NamedTuple
 
-from tests.support.checks import LATER
+from tests.support.checks import LATER, without_progress
 from tests.support.ledgers import wait_for_lock
 from tests.support.running import COMPANION, Row, Run
 from tests.worlds.fates import texts
@@ -320,5 +320,6 @@ def wrong_after(world: World, run: Run) -> Iterator[str]:
                     yield brief(rows[0])
             else:
                 yield from wrong_mail(world, thing)
-    if run.err:
-        yield f"standard error: {run.err.strip()[-200:]}"
+    errors = without_progress(run.err)
+    if errors:
+        yield f"standard error: {errors.strip()[-200:]}"
