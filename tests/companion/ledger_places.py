@@ -293,6 +293,17 @@ def rule_8_moved_and_more(home: Home) -> None:
     home.has(0, 1, 2, 2, 3, 3, 4, 4, 5, 5, 6, 6, 7)
 
 
+def rule_8_equal_ones_moved_together(home: Home) -> None:
+    """Two equal mailboxes, each of which was given a folder, are moved together: each is known by its name."""
+    home.begin(*JOBS)
+    for name in ("a", "b"):
+        home.done(home.write(f"old/{name}", letters(0, 1)), words=["--folder", f"of-{name}"])
+    (home.path / "old").rename(home.path / "new")
+    for name in ("a", "b"):
+        equal(f"where {name} is", home.done(f"new/{name}")[f"new/{name}"]["folder"], f"of-{name}")
+    home.has(0, 0, 1, 1)
+
+
 def rule_8_moved_without_mail(home: Home) -> None:
     """A mailbox that has no message but the one in which a server keeps its UIDs was moved. What is delivered to it
     then is placed: the folder has its UIDs. Another mailbox at its new path has others."""
