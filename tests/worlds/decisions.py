@@ -32,7 +32,7 @@ QUOTES = re.compile(rb"(?m)^>*From ")
 # a CR that begins the line, only before a header of mail: it is left whatever is said of several
 DATED = rb"From \S+ [^\n]*\d\d:\d\d:\d\d [^\n]*\d{4}$"
 DAMAGE = re.compile(
-    rb"(?m)(?:[^>\s]|@[^<>\s]+>)%s|(?:[^>\s-][ \t\r]|^\r)%s\n(?:[^\s:]+:.*\n)*?(?i:from|return-path|date):"
+    rb"(?m)(?:[^>\s]|@[^<>\s]+>)%s|(?:[^>\s-]-*[ \t\r]|^\r)%s\n(?:[^\s:]+:.*\n)*?(?i:from|return-path|date):"
     % (DATED, DATED)
 )
 SAME = (("mboxrd", "mboxo"), ("mboxcl", "mboxcl2"), ("unquoted",))
