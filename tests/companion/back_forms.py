@@ -223,6 +223,14 @@ def an_empty_mailbox(home: Home) -> None:
     equal("the first ones", [b"\n Subject: blank\n" in texts[path] for path in ("spool", "mail/lists/one")], [True] * 2)
 
 
+def line_ends(home: Home) -> None:
+    """What goes back into a mailbox whose lines end in CR LF has such lines too, also where a file has none."""
+    house = House(home, {**BOXES, "spool": OLD.replace(b"\n", b"\r\n")})
+    house.deliver([*PLAIN, PLAIN[0].replace(b"\n", b"\r\n")])
+    equal("rows", [row.messages for row in house.back()], [4])
+    equal("lines that end in LF alone", re.findall(rb"(?m)^.*(?<!\r)$\n", house.texts()["spool"]), [])
+
+
 def marked_as_deleted(home: Home) -> None:
     """A message that Thunderbird has marked as deleted would be asked about in a new mailbox whose other messages all
     have its field. It holds up none of these, and goes back once they are there, since they are Thunderbird's then."""
@@ -376,6 +384,7 @@ if __name__ == "__main__":
         a_blank,
         several_blanks,
         an_empty_mailbox,
+        line_ends,
         marked_as_deleted,
         without_dates,
         without_an_end,
