@@ -233,6 +233,4 @@ def of_a_tree_below_root(home: Path) -> None:
 
 
 if __name__ == "__main__":
-    check_all(
-        of_a_tree, of_names, nothing_is_replaced, where_none_may_write, as_root_types_them, of_a_tree_below_root
-    )
+    check_all(of_a_tree, of_names, nothing_is_replaced, where_none_may_write, as_root_types_them, of_a_tree_below_root)
