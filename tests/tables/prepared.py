@@ -434,6 +434,10 @@ STORIES: dict[str, list[Step]] = {
         *(("a", ONE), "migrate --prepare --unread --folder X M a", "!mv a b", ("b", ONE + TWO)),
         *(("migrate M b", "b: done: 1 prepared before"), "= X/one X/two"),
     ],
+    "in_inbox_although_a_copy_of_it_is_done_and_gone": [
+        *(("a", ONE), FIRST, ("old/c", ONE), (TREE, f"a: {NOT_MET}\nold/c: done"), "!rm -r old"),
+        *((LAST, "a: done: 1 prepared before; 1 message of it went into c too, from old/c"), "= c/one one"),
+    ],
     # the name of one is the beginning of the other's
     "another_tree": [
         *(*TEN[:-1], ("older/c", TWO), f"{FIRST_OF_TREE} older", (TREE, f"{TEN_DONE}\nolder/c: {NOT_MET}")),

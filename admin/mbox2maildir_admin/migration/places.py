@@ -73,7 +73,9 @@ def recorded(one: Planned, record: History) -> Planned:
 def recorded_or_moved(one: Planned, record: History) -> Planned:
     """The same of a file for which no folder was named. One that was moved has the folder that it had."""
     found = recorded(one, record)
-    folders = [] if found.why or record.folders_given(one.path) else folders_of_moved(one.path, record)
+    # one that was prepared at this path goes on there, also in INBOX
+    is_known = found.why or record.folders_given(one.path) or record.prepared_from(record.names_of(one.path))
+    folders = [] if is_known else folders_of_moved(one.path, record)
     return found._replace(folder=folders[-1]) if folders else found
 
 
