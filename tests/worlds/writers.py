@@ -197,13 +197,15 @@ def git(draw: Random, mails: Sequence[Letter]) -> Written:
 
 def export(draw: Random, mails: Sequence[Letter]) -> Written:
     """Exports and scripts of people's own: nothing is quoted, and From_ lines have no date that is known. They have
-    Google Groups' numbers, dates of ISO 8601, or nothing."""
+    Google Groups' numbers, dates of ISO 8601, or nothing. A mail alone is quoted: a dated line in it would be like the
+    beginning of the next, and no other line contradicts that."""
     form, pieces = draw.randrange(3), []
     for one in mails:
         number, when = draw.getrandbits(64) - 2**63, one.when.strftime("%Y-%m-%dT%H:%M:%SZ").encode()
         sender = [b"%d" % number, b"%s %s" % (one.sender, when), b"-"][form]
         message = ended(one.whole)
-        pieces.append(piece_of(b"From " + sender, message, message))
+        text = message if len(mails) > 1 else in_mboxrd(message)
+        pieces.append(piece_of(b"From " + sender, text, message))
     return Written("mboxrd", tuple(pieces))
 
 
